@@ -28,3 +28,4 @@ pub mod Reading
 pub mod Polling
 pub mod Asking
 pub mod ShownFull
+pub mod Marking

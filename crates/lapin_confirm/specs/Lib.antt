@@ -13,3 +13,4 @@ pub mod Ties
 pub mod Follows
 pub mod Polled
 pub mod Codes
+pub mod Marks

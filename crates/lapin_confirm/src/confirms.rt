@@ -26,7 +26,7 @@ use crate::rooms::{give_up, is_promised, make_room, promise, use_room};
 use crate::settling::{end_opening, enqueue, leave, reject, settle_tag, settle_through};
 use lapin_full::ChannelSet;
 use lapin_rules::SettleKind;
-use lapin_tables::{ByChannel, Numbered};
+use lapin_tables::{ByChannel, Numbered, Packed};
 use lapin_types::{BasicReturnMessage, Confirmation, Error, NoMemory, Outcome};
 use std::alloc::Global;
 use std::collections::VecDeque;
@@ -37,8 +37,8 @@ pub struct Confirms {
     pub(crate) confirm_modes: ByChannel<ConfirmMode>,
     // The channels that are full, by their confirm modes.
     pub(crate) full: ChannelSet,
-    pub(crate) cells: Numbered<Cell>,
-    pub(crate) origins: Numbered<Origin>,
+    pub(crate) cells: Packed<Cell>,
+    pub(crate) origins: Packed<Origin>,
     pub(crate) returned_by_channel: ByChannel<Returned>,
     pub(crate) early: VecDeque<(u16, BasicReturnMessage)>,
     pub(crate) rooms: ByChannel<bool>,
@@ -86,8 +86,8 @@ impl Confirms {
         Ok(Confirms {
             confirm_modes: ByChannel::new(alloc),
             full: ChannelSet::new(alloc),
-            cells: Numbered::new(alloc),
-            origins: Numbered::new(alloc),
+            cells: Packed::new(alloc),
+            origins: Packed::new(alloc),
             returned_by_channel: ByChannel::new(alloc),
             early: VecDeque::new(alloc),
             rooms: ByChannel::new(alloc),
@@ -423,13 +423,14 @@ impl Confirms {
 }
 
 // The channel of a publish that was accepted and has not left.
-fn queued_channel(cells: &Numbered<Cell>, number: u64) -> u16
+#[inline(always)]
+fn queued_channel(cells: &Packed<Cell>, number: u64) -> u16
     requires { is_queued (under number cells.now.slots) ≡ true }
     ensures queued { under number cells.now.slots ≡ Some (Cell.Queued result) }
     ensures fits { length cells.now.slots < 2 ^ 64 }
 {
     match cells.get(number) {
-        Some(Cell::Queued(channel)) => *channel,
+        Some(Cell::Queued(channel)) => channel,
         _ => unreachable!(),
     }
 }

@@ -12,7 +12,7 @@ use crate::confirms::Confirms;
 use crate::early::take_early;
 use crate::origin::Origin;
 use crate::sweep::leave_one;
-use lapin_tables::Numbered;
+use lapin_tables::Packed;
 use lapin_types::{NoMemory, ReturnedList};
 use std::alloc::Global;
 use std::collections::VecDeque;
@@ -41,7 +41,7 @@ impl Confirms {
 }
 
 // Of these confirms nothing is kept any more, if they are resolved.
-fn leave_all(cells: &mut Numbered<Cell>, origins: &mut Numbered<Origin>, over: &mut VecDeque<u64>)
+fn leave_all(cells: &mut Packed<Cell>, origins: &mut Packed<Origin>, over: &mut VecDeque<u64>)
     ensures remains { remaining cells.new.slots origins.new.slots ≡ less_all over.old.items (remaining cells.old.slots origins.old.slots) }
     ensures tied { (es : List (ℕ × AConfirmMode)) → AllTied es cells.old.slots → AllTied es cells.new.slots }
     ensures counts { (length cells.new.slots ≡ length cells.old.slots) × (length origins.new.slots ≡ length origins.old.slots) }

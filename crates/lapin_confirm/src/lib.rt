@@ -18,6 +18,7 @@ mod full_set;
 mod laws;
 mod limits;
 mod lists;
+mod marks;
 mod openings;
 mod origin;
 mod results;

@@ -16,7 +16,7 @@ ghost use Rattle.lapin_confirm.specs.ReturnedMessages.{place_in, is_of as is_of_
 use crate::cell::Cell;
 use crate::origin::Origin;
 use crate::sweep::{Sweep, leave_one, pour, sweep_all};
-use lapin_tables::Numbered;
+use lapin_tables::Packed;
 use lapin_types::{BasicReturnMessage, NoMemory};
 use std::alloc::{AllocError, Global};
 use std::collections::VecDeque;
@@ -139,7 +139,7 @@ impl Lists {
     pub fn drain(
         &mut self,
         alloc: Global,
-        cells: &Numbered<Cell>,
+        cells: &Packed<Cell>,
     ) -> Result<(Vec<BasicReturnMessage>, VecDeque<u64>), NoMemory>
         ensures given { IfOk result (λ r. r.0.items ≡ drained_messages (is_over cells.now.slots) self.old.return_lists) }
         ensures over { IfOk result (λ r. r.1.items ≡ filter (is_over cells.now.slots) self.old.return_lists.aside) }
@@ -159,7 +159,7 @@ impl Lists {
 
     /// A new opening begins: nothing waits, is kept or stands aside. Messages of confirms that were not asked for yet stay.
     /// Of those that stand aside and are resolved nothing is kept any more.
-    pub fn renew(&mut self, cells: &mut Numbered<Cell>, origins: &mut Numbered<Origin>)
+    pub fn renew(&mut self, cells: &mut Packed<Cell>, origins: &mut Packed<Origin>)
         ensures return_lists { self.new.return_lists ≡ renewed self.old.return_lists }
         ensures place { HasPlace self.old → HasPlace self.new }
         ensures remains { remaining cells.new.slots origins.new.slots ≡ less_all self.old.return_lists.aside (remaining cells.old.slots origins.old.slots) }
@@ -209,8 +209,8 @@ pub fn taken_from(
 fn forget(
     attached: &mut VecDeque<(u64, BasicReturnMessage)>,
     numbers: &mut VecDeque<u64>,
-    cells: &mut Numbered<Cell>,
-    origins: &mut Numbered<Origin>,
+    cells: &mut Packed<Cell>,
+    origins: &mut Packed<Origin>,
 )
     ensures items { attached.new.items ≡ without_all numbers.old.items attached.old.items }
     ensures none { numbers.new.items ≡ [] }

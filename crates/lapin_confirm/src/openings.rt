@@ -18,7 +18,7 @@ use crate::early::{let_go_all, take_early};
 use crate::origin::Origin;
 use crate::returned::Returned;
 use lapin_full::ChannelSet;
-use lapin_tables::{ByChannel, Numbered};
+use lapin_tables::{ByChannel, Packed};
 use lapin_types::BasicReturnMessage;
 use std::alloc::{AllocError, Global};
 use std::collections::VecDeque;
@@ -64,8 +64,8 @@ pub fn put_confirm_mode(
 /// first ones have room for a message where that is promised, and the channel's early messages are let go.
 pub fn renew_returned_messages(
     returned_by_channel: &mut ByChannel<Returned>,
-    cells: &mut Numbered<Cell>,
-    origins: &mut Numbered<Origin>,
+    cells: &mut Packed<Cell>,
+    origins: &mut Packed<Origin>,
     early: &mut VecDeque<(u16, BasicReturnMessage)>,
     alloc: Global,
     channel: u16,

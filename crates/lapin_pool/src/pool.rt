@@ -3,11 +3,12 @@
 ghost use Rattle.std.specs.Prelude.{◌≡◌, ◌≤◌, ◌+◌, [], IfOk, OnOk, OnErr, length, false};
 ghost use Rattle.std.specs.Vec.{vec_capacity};
 ghost use Rattle.lapin_shared.specs.Ackers.{UsesOnce};
+ghost use Rattle.lapin_shared.specs.Grown.{AreApart};
 ghost use Rattle.lapin_threads.specs.Tallied.{Tallied};
 ghost use Rattle.lapin_pool.specs.Ran.{EndedSo};
 ghost use Rattle.lapin_pool.specs.Seats.{of_seat};
 ghost use Rattle.lapin_pool.specs.Pooled.{HaveWorked};
-ghost use Rattle.lapin_pool.specs.Pool.{AreApart, AreGrown, IsPool};
+ghost use Rattle.lapin_pool.specs.Pool.{AreGrown, IsPool};
 
 use crate::card::PoolEnd;
 use crate::duty::Duty;

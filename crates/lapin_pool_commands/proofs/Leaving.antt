@@ -1,60 +1,33 @@
 -- The first caller made the events and the others worked: what stands of both in the history.
-use Rattle.std.proofs.Common.{◌≡◌, ◌∙◌, ℕ, ◌+◌, ◌-◌, ◌^◌, ◌<◌, ◌≤◌, ◌++◌, inl, inr, eqb, Bool, true, false, ◌&&◌, List, [], ◌∷◌, map, length, refl, sym, ap, subst, arith, length-append, Result, Ok, Err, IfOk}
+use Rattle.std.proofs.Common.{◌≡◌, ◌∙◌, ℕ, ◌+◌, ◌-◌, ◌^◌, ◌<◌, ◌≤◌, ◌++◌, inl, inr, Bool, true, false, ◌&&◌, List, [], ◌∷◌, map, length, refl, sym, ap, subst, arith, length-append, Result, Ok, Err, IfOk}
 use Rattle.std.specs.Prelude.{slice_get, slice_set, if◌then◌else◌}
-use Rattle.std.specs.List.{All, Contains, IsDistinct, sum_by}
-use Rattle.std.proofs.lemmas.Bool.Decides.{nat_tests}
+use Rattle.std.specs.List.{All, Contains, sum_by}
 use Rattle.std.proofs.lemmas.List.{length-map}
 use Rattle.std.proofs.lemmas.List.Sums.{sum_by-cons}
-use Rattle.std.proofs.lemmas.List.Elements.{All-nil, All-cons, All-head, All-tail, recursion_from_All, Contains-append_right}
-use Rattle.std.proofs.lemmas.Map.Keys.{IsDistinct-cons}
+use Rattle.std.proofs.lemmas.List.Elements.{All-head, All-tail, Contains-append_right}
 use Rattle.lapin_types.specs.declared.event.Event.{Event}
 use Rattle.lapin_locked.specs.declared.entry.Entry.{Entry}
 use Rattle.lapin_locked.specs.declared.entry.Told.{Told}
-use Rattle.lapin_shared.specs.Grown.{Seen, Rise, AreFresh}
+use Rattle.lapin_shared.specs.Grown.{Seen, Rise, AreFresh, AreApart}
 use Rattle.lapin_shared.specs.Checked.{AllAt}
 use Rattle.lapin_shared.specs.Own.{own, event_of, AreBack, logged}
+use Rattle.lapin_shared.proofs.Apart.{Numbered, fresh_numbered, numbered_apart}
 use Rattle.lapin_shared.proofs.Counting.{interleaves}
 use Rattle.lapin_pool.specs.declared.card.Card.{Card}
 use Rattle.lapin_pool.specs.declared.card.PoolEnd.{PoolEnd}
-use Rattle.lapin_pool.specs.Pool.{Stint, before_of, after_of, number_of, AreApart, is_next_job, tells_in, jobs, EndsThere, HasDone, IsPool}
+use Rattle.lapin_pool.specs.Pool.{Stint, before_of, after_of, is_next_job, tells_in, jobs, EndsThere, HasDone, IsPool}
 use Rattle.lapin_pool.proofs.Members.{no_member, member_cases, member_map}
 use Rattle.lapin_pool_commands.specs.First.{IsFirst}
 use Rattle.lapin_pool_commands.specs.Left.{most_turns, by_first_byte, HaveBegun, IsLeft}
 
 -- ---- numbers
 
--- callers numbered from n
-abbrev Numbered : ℕ → List Seen → Type 0
-Numbered n [] = Unit {0}
-Numbered n (c ∷ cs) = (c.number ≡ n) × Numbered (n + 1) cs
-
-fresh_numbered : (n : ℕ) (cs : List Seen) → AreFresh n cs → Numbered n cs
-fresh_numbered n [] f = tt
-fresh_numbered n (c ∷ cs) f = (f.0, fresh_numbered (n + 1) cs f.2)
-
-differ : (p q : ℕ) → p < q → eqb p q ≡ false
-differ p q lt = grind (arith, nat_tests)
-
-above : (m n : ℕ) (cs : List Seen) → m < n → Numbered n cs → All (λ k. eqb m k ≡ false) (map number_of cs)
-above m n [] lt d = All-nil (λ k. eqb m k ≡ false)
-above m n (c ∷ cs) lt d =
-    All-cons (λ k. eqb m k ≡ false) c.number (map number_of cs) (differ m c.number (omega (arith, d.0))) (above m (n + 1) cs (omega arith) d.1)
-
-apart : (n : ℕ) (cs : List Seen) → Numbered n cs → AreApart cs
-unfolding IsDistinct
-apart n [] d = tt
-apart n (c ∷ cs) d =
-    IsDistinct-cons eqb c.number (map number_of cs) (recursion_from_All (λ k. eqb c.number k ≡ false) (map number_of cs) (above c.number (n + 1) cs (omega (arith, d.0)) d.1)) (apart (n + 1) cs d.1)
-
-pub fresh_apart : (n : ℕ) (cs : List Seen) → AreFresh n cs → AreApart cs
-fresh_apart n cs f = apart n cs (fresh_numbered n cs f)
-
 begun_numbered : (n : ℕ) (es : List Event) (cs : List Seen) → HaveBegun n es cs → Numbered 1 cs
 begun_numbered n es [] b = absurd b
 begun_numbered n es (c ∷ cs) b = (b.0, fresh_numbered 2 cs b.2)
 
 pub begun_apart : (n : ℕ) (es : List Event) (cs : List Seen) → HaveBegun n es cs → AreApart cs
-begun_apart n es cs b = apart 1 cs (begun_numbered n es cs b)
+begun_apart n es cs b = numbered_apart 1 cs (begun_numbered n es cs b)
 
 pub begun_length : (n : ℕ) (es : List Event) (cs : List Seen) → HaveBegun n es cs → length cs ≡ n + 1
 begun_length n es [] b = absurd b

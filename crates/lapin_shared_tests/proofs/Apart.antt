@@ -1,9 +1,8 @@
 -- Callers of which the first made steps: their numbers stay.
 use Rattle.std.proofs.Common.{◌≡◌, ◌<◌, List, [], ◌∷◌, map, length, get_or, ap, arith, sym, subst}
 use Rattle.std.specs.Prelude.{slice_set}
-use Rattle.lapin_shared.specs.Grown.{Seen, AreFresh}
-use Rattle.lapin_pool.specs.Pool.{number_of, AreApart}
-use Rattle.lapin_pool_commands.proofs.Leaving.{fresh_apart}
+use Rattle.lapin_shared.specs.Grown.{Seen, AreFresh, AreApart, number_of}
+use Rattle.lapin_shared.proofs.Apart.{fresh_apart}
 
 pub first_numbers : (cs : List Seen) (c d : Seen) → 0 < length cs → d.number ≡ (get_or cs 0 c).number → map number_of (slice_set cs 0 d) ≡ map number_of cs
 first_numbers [] c d some e = absurd (omega arith)

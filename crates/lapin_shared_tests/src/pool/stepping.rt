@@ -2,7 +2,7 @@
 //! call it.
 
 ghost use Rattle.std.specs.Prelude.{◌≡◌, ◌<◌, length, map};
-ghost use Rattle.lapin_pool.specs.Pool.{number_of};
+ghost use Rattle.lapin_shared.specs.Grown.{number_of};
 
 use crate::driver::words_of;
 use crate::stepping::make_events;
