@@ -1,4 +1,6 @@
+pub mod CameLaws
 pub mod FlagLaws
+pub mod OpaqueLaws
 pub mod PartLaws
 pub mod ReadingLaws
 pub mod RisingLaws

@@ -1,5 +1,5 @@
 -- What was written is read: the fields that hold no other.
-use Rattle.std.proofs.Common.{◌≡◌, ℕ, ◌<◌, ◌^◌, List, [], ◌∷◌, ◌++◌, length, Option, Some, refl, ap, ◌∙◌, arith, append_assoc}
+use Rattle.std.proofs.Common.{◌≡◌, ℕ, ◌<◌, ◌^◌, List, [], ◌∷◌, ◌++◌, length, Option, Some, None, refl, ap, ◌∙◌, arith, append_assoc}
 use Rattle.std.proofs.lemmas.Nat.{from_be_bytes-to_be_bytes_2, from_be_bytes-to_be_bytes_4, from_be_bytes-to_be_bytes_8}
 use Rattle.std.proofs.lemmas.Bool.{le-ltb}
 use Rattle.std.proofs.lemmas.List.{length-append}
@@ -14,6 +14,11 @@ use Rattle.std.proofs.lemmas.Str.{IsUtf8-from_is_utf8}
 -- a step that reads what was written goes on with it
 pub then_on : {A B : Type 0} (m : Option A) (x : A) (k : A → Option B) (y : Option B) → m ≡ Some x → k x ≡ y → (m >>= k) ≡ y
 then_on m x k y e f = ap (λ (o : Option _). o >>= k) e ∙ f
+
+-- where a step gave something, so did what it went on with
+pub bind_some : {A B : Type 0} (m : Option A) (k : A → Option B) (y : B) → (m >>= k) ≡ Some y → (x : A) × (m ≡ Some x) × (k x ≡ Some y)
+bind_some None k y e = absurd cc
+bind_some (Some x) k y e = (x, refl, e)
 
 -- a number in two octets, in four, and in eight
 pub short_back : (n : ℕ) (rest : List ℕ) → n < 2 ^ 16 → short_at (short n ++ rest) ≡ Some (n, rest)

@@ -155,7 +155,7 @@ pub table_inside : (ps : List (List ℕ × Data)) → TableFits ps → table_in 
 unfolding ValueFits ItemsFit PairsFit
 table_inside ps fit = table_again 7 (value_back 7) (pairs_of ps) fit.0 fit.1 ∙ ap Some (pairs_list-pairs_of ps)
 
-table_long : (ps : List (List ℕ × Data)) → TableFits ps → StringFits (pairs_bytes (pairs_of ps))
+pub table_long : (ps : List (List ℕ × Data)) → TableFits ps → StringFits (pairs_bytes (pairs_of ps))
 unfolding ValueFits ItemsFit PairsFit
 table_long ps fit = fit.2
 

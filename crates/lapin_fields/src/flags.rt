@@ -51,19 +51,3 @@ pub fn unpacked(byte: u8) -> [bool; 5]
         byte / 16 % 2 == 1,
     ]
 }
-
-/// The flags that stand in one whole octet.
-pub fn unpacked_whole(byte: u8) -> [bool; 8]
-    ensures { result ≡ bit_at 1 byte ∷ bit_at 2 byte ∷ bit_at 4 byte ∷ bit_at 8 byte ∷ bit_at 16 byte ∷ bit_at 32 byte ∷ bit_at 64 byte ∷ bit_at 128 byte ∷ [] }
-{
-    [
-        byte % 2 == 1,
-        byte / 2 % 2 == 1,
-        byte / 4 % 2 == 1,
-        byte / 8 % 2 == 1,
-        byte / 16 % 2 == 1,
-        byte / 32 % 2 == 1,
-        byte / 64 % 2 == 1,
-        byte / 128 % 2 == 1,
-    ]
-}

@@ -1,11 +1,12 @@
 //! Laws of the layout: what is written is read, and what is wanted is wanted.
 
-ghost use Rattle.std.specs.Prelude.{◌≡◌, ◌++◌, ◌∷◌, ◌<◌, ◌^◌, Bool, true, ℕ, List, length, Some};
+ghost use Rattle.std.specs.Prelude.{◌≡◌, ◌++◌, ◌∷◌, ◌<◌, ◌^◌, Bool, true, ℕ, List, length, All, Some, None};
 ghost use Rattle.std.specs.Str.{is_utf8};
 ghost use Rattle.lapin_values.specs.Data.{Data};
 ghost use Rattle.lapin_fields.specs.Around.{around, around_at, and_more, wanted_behind};
 ghost use Rattle.lapin_fields.specs.Fields.{text, counted, bits};
 ghost use Rattle.lapin_fields.specs.Fits.{TextFits, StringFits, TableFits, ValueFits};
+ghost use Rattle.lapin_fields.specs.Opaque.{carried, opaque, opaque_at, table_octets, arguments_bytes, ArgumentsFit};
 ghost use Rattle.lapin_fields.specs.Reading.{readable, reply_at, text_at, counted_at, bit_at};
 ghost use Rattle.lapin_fields.specs.ValueReading.{table_at, value_at};
 ghost use Rattle.lapin_fields.specs.Values.{table_bytes, value_bytes};
@@ -32,10 +33,28 @@ pub fn written_values_are_read()
     ensures table { (ps : List (List ℕ × Data)) (rest : List ℕ) → TableFits ps → table_at (table_bytes ps ++ rest) ≡ Some (ps, rest) }
 {}
 
+/// A table of arguments is read as the octets that were written of it (`read`): those that it carries, whatever they are (`octets`), and of a table
+/// that carries none those of its values (`values`).
+#[tactic(auto, using(crate::proofs::OpaqueLaws::arguments_back, crate::proofs::OpaqueLaws::octets_again, crate::proofs::OpaqueLaws::by_values))]
+pub fn carried_octets_are_read()
+    ensures read { (t : List (List ℕ × Data)) (rest : List ℕ) → ArgumentsFit t → opaque_at (arguments_bytes t ++ rest) ≡ Some (opaque (table_octets t), rest) }
+    ensures octets { (os : List ℕ) → table_octets (opaque os) ≡ os }
+    ensures values { (t : List (List ℕ × Data)) → carried t ≡ None → arguments_bytes t ≡ table_bytes t }
+{}
+
 /// A payload is read from what was written around it.
 #[tactic(auto, using(crate::proofs::ReadingLaws::around_back))]
 pub fn written_payload_is_read()
     ensures { (kind channel : ℕ) (payload rest : List ℕ) → channel < 2 ^ 16 → StringFits payload → around_at (around kind channel payload ++ rest) ≡ Some ((kind, channel, payload), rest) }
+{}
+
+/// What was read, of octets, came as it would be written: a long string behind its length, a table of arguments, and a payload with what stands
+/// around it.
+#[tactic(auto, using(crate::proofs::CameLaws::counted_came, crate::proofs::CameLaws::opaque_came, crate::proofs::CameLaws::around_came))]
+pub fn what_is_read_came_so()
+    ensures string { (bytes s rest : List ℕ) → All (λ b. b < 256) bytes → counted_at bytes ≡ Some (s, rest) → bytes ≡ counted s ++ rest }
+    ensures arguments { (bytes : List ℕ) (t : List (List ℕ × Data)) (rest : List ℕ) → All (λ b. b < 256) bytes → opaque_at bytes ≡ Some (t, rest) → bytes ≡ arguments_bytes t ++ rest }
+    ensures around { (bytes : List ℕ) (x : (ℕ × ℕ × List ℕ) × List ℕ) → All (λ b. b < 256) bytes → around_at bytes ≡ Some x → bytes ≡ around x.0.0 x.0.1 x.0.2 ++ x.1 }
 {}
 
 /// Flags that were packed into an octet, at most eight, are the bits of it.

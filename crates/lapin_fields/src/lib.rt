@@ -10,20 +10,21 @@ mod flags;
 mod laws;
 mod leaves;
 mod octets;
+mod opaque;
 mod texts;
 mod value_reading;
 mod value_writing;
 
 pub use around::{Around, put_around, take_around, wanted};
 pub use fault::{ReadFault, WriteFault};
-pub use flags::{bit, packed, packed_whole, unpacked, unpacked_whole};
+pub use flags::{bit, packed, packed_whole, unpacked};
 pub use laws::{
-    packed_flags_are_bits, reply_texts_are_texts, what_is_wanted_is_wanted,
-    written_payload_is_read, written_texts_are_read, written_values_are_read,
+    carried_octets_are_read, packed_flags_are_bits, reply_texts_are_texts, what_is_read_came_so,
+    what_is_wanted_is_wanted, written_payload_is_read, written_texts_are_read,
+    written_values_are_read,
 };
 pub use octets::{Octets, put_counted, put_long, put_octet, put_short, put_wide};
-pub use texts::{
-    put_text, readable_text, short_text, skip_text, take_reply, take_string, take_text,
-};
+pub use opaque::{carried, carrier, put_arguments, take_opaque};
+pub use texts::{put_text, readable_text, skip_text, take_reply, take_text};
 pub use value_reading::{LEVELS, table_of, take_table};
 pub use value_writing::put_table;

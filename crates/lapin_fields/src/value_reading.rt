@@ -13,7 +13,7 @@ use crate::fault::ReadFault;
 use crate::leaves::{as_bytes, take_leaf};
 use crate::octets::Octets;
 use crate::texts::take_text;
-use lapin_values::{AMQPValue, FieldArray, FieldTable};
+use lapin_values::{AMQPValue, FieldArray, FieldTable, GatheredTable};
 use std::alloc::Global;
 
 /// How many levels of arrays and tables are read and written. A table that stands by itself is the first.
@@ -105,17 +105,17 @@ fn pairs(alloc: Global, piece: &[u8], level: u8) -> Result<FieldTable, ReadFault
     ensures { GivesWhole result (pairs_in (value_at level) (length piece.now) [] piece.now) }
 {
     let mut octets = Octets::new(piece);
-    let mut pairs = FieldTable::new(alloc);
+    let mut pairs = GatheredTable::new(alloc);
     for _turn in 0..piece.len() {
         if octets.is_empty() {
-            return Ok(pairs);
+            return Ok(pairs.into_table(alloc)?);
         }
         let key = take_text(alloc, &mut octets)?;
         let value = take_value(alloc, &mut octets, level)?;
         pairs.insert(alloc, key, value)?;
     }
     octets.finish()?;
-    Ok(pairs)
+    Ok(pairs.into_table(alloc)?)
 }
 
 /// The table that stands next behind its length.

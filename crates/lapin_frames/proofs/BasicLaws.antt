@@ -1,23 +1,24 @@
--- What was written is read: methods of the class basic.
+-- What was written is read: methods of the class basic, with the table carried.
 use Rattle.std.proofs.Common.{◌≡◌, ℕ, List, [], ◌∷◌, ◌++◌, Some, refl, ap, ◌∙◌}
 use Rattle.lapin_fields.specs.Fields.{short, long, wide, text, flags}
-use Rattle.lapin_fields.specs.Values.{table_bytes}
+use Rattle.lapin_fields.specs.Opaque.{opaque, table_octets, arguments_bytes}
 use Rattle.lapin_fields.proofs.FlagLaws.{flag_1, flag_2, flag_4, flag_8}
 use Rattle.lapin_fields.proofs.ReadingLaws.{then_on, text_back, reply_back, string_back}
 use Rattle.std.proofs.lemmas.Nat.{from_be_bytes-to_be_bytes_2, from_be_bytes-to_be_bytes_4, from_be_bytes-to_be_bytes_8}
-use Rattle.lapin_fields.proofs.ValueLaws.{table_back}
+use Rattle.lapin_fields.proofs.OpaqueLaws.{arguments_back}
 use Rattle.lapin_methods.specs.declared.basic.BasicMethod.{BasicMethod}
 use Rattle.lapin_methods.specs.declared.basic.BasicMethod.TheVariants as basic_method
+use Rattle.lapin_frames.specs.Carried.{basic_again}
 use Rattle.lapin_frames.specs.FrameFits.{BasicFits}
 use Rattle.lapin_frames.specs.Methods.{basic_bytes}
 use Rattle.lapin_frames.specs.MethodReading.{basic_at}
 use Rattle.lapin_frames.proofs.Joined.{numbered, joined_2, joined_3, joined_4, joined_5, joined_6}
 
 -- a method of the class basic, from its number on
-pub basic_back : (m : BasicMethod) (rest : List ℕ) → BasicFits m → numbered basic_at (basic_bytes m ++ rest) ≡ Some (m, rest)
+pub basic_back : (m : BasicMethod) (rest : List ℕ) → BasicFits m → numbered basic_at (basic_bytes m ++ rest) ≡ Some (basic_again m, rest)
 basic_back (basic_method.Qos prefetch_count global) rest fit = ap (numbered basic_at) (joined_4 (short 10) (long 0) (short prefetch_count) (flags (global ∷ [])) rest) ∙ (rw (from_be_bytes-to_be_bytes_2 prefetch_count fit) (λ i. Some (basic_method.Qos prefetch_count (flag_1 global [] i), rest)))
 basic_back basic_method.QosOk rest fit = refl
-basic_back (basic_method.Consume queue consumer_tag no_local no_ack exclusive nowait arguments) rest fit = ap (numbered basic_at) (joined_6 (short 20) (short 0) (text queue) (text consumer_tag) (flags (no_local ∷ no_ack ∷ exclusive ∷ nowait ∷ [])) (table_bytes arguments) rest) ∙ (then_on _ _ _ _ (text_back queue (text consumer_tag ++ (flags (no_local ∷ no_ack ∷ exclusive ∷ nowait ∷ []) ++ (table_bytes arguments ++ rest))) fit.0) (then_on _ _ _ _ (text_back consumer_tag (flags (no_local ∷ no_ack ∷ exclusive ∷ nowait ∷ []) ++ (table_bytes arguments ++ rest)) fit.1) (then_on _ _ _ _ (table_back arguments rest fit.2) (λ i. Some (basic_method.Consume queue consumer_tag (flag_1 no_local (no_ack ∷ exclusive ∷ nowait ∷ []) i) (flag_2 no_local no_ack (exclusive ∷ nowait ∷ []) i) (flag_4 no_local no_ack exclusive (nowait ∷ []) i) (flag_8 no_local no_ack exclusive nowait [] i) arguments, rest)))))
+basic_back (basic_method.Consume queue consumer_tag no_local no_ack exclusive nowait arguments) rest fit = ap (numbered basic_at) (joined_6 (short 20) (short 0) (text queue) (text consumer_tag) (flags (no_local ∷ no_ack ∷ exclusive ∷ nowait ∷ [])) (arguments_bytes arguments) rest) ∙ (then_on _ _ _ _ (text_back queue (text consumer_tag ++ (flags (no_local ∷ no_ack ∷ exclusive ∷ nowait ∷ []) ++ (arguments_bytes arguments ++ rest))) fit.0) (then_on _ _ _ _ (text_back consumer_tag (flags (no_local ∷ no_ack ∷ exclusive ∷ nowait ∷ []) ++ (arguments_bytes arguments ++ rest)) fit.1) (then_on _ _ _ _ (arguments_back arguments rest fit.2) (λ i. Some (basic_method.Consume queue consumer_tag (flag_1 no_local (no_ack ∷ exclusive ∷ nowait ∷ []) i) (flag_2 no_local no_ack (exclusive ∷ nowait ∷ []) i) (flag_4 no_local no_ack exclusive (nowait ∷ []) i) (flag_8 no_local no_ack exclusive nowait [] i) (opaque (table_octets arguments)), rest)))))
 basic_back (basic_method.ConsumeOk consumer_tag) rest fit = ap (numbered basic_at) (joined_2 (short 21) (text consumer_tag) rest) ∙ (then_on _ _ _ _ (text_back consumer_tag rest fit) refl)
 basic_back (basic_method.Cancel consumer_tag nowait) rest fit = ap (numbered basic_at) (joined_3 (short 30) (text consumer_tag) (flags (nowait ∷ [])) rest) ∙ (then_on _ _ _ _ (text_back consumer_tag (flags (nowait ∷ []) ++ rest) fit) (λ i. Some (basic_method.Cancel consumer_tag (flag_1 nowait [] i), rest)))
 basic_back (basic_method.CancelOk consumer_tag) rest fit = ap (numbered basic_at) (joined_2 (short 31) (text consumer_tag) rest) ∙ (then_on _ _ _ _ (text_back consumer_tag rest fit) refl)

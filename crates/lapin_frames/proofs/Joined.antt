@@ -1,5 +1,6 @@
 -- Pieces that were added one behind another stand before what is behind them.
-use Rattle.std.proofs.Common.{◌≡◌, ℕ, List, ◌++◌, Option, ◌∙◌, append_assoc}
+use Rattle.std.proofs.Common.{◌≡◌, ℕ, ◌+◌, List, ◌++◌, length, Option, ap, ◌∙◌, append_assoc}
+use Rattle.std.proofs.lemmas.List.{length-append}
 use Rattle.lapin_fields.specs.Reading.{◌>>=◌, short_at}
 
 -- a reading behind a number in two octets
@@ -26,3 +27,20 @@ joined_7 a b c d e f g r = joined_6 (a ++ b) c d e f g r ∙ append_assoc a b ((
 
 pub joined_8 : (a b c d e f g h r : List ℕ) → (((((((a ++ b) ++ c) ++ d) ++ e) ++ f) ++ g) ++ h) ++ r ≡ a ++ (b ++ (c ++ (d ++ (e ++ (f ++ (g ++ (h ++ r)))))))
 joined_8 a b c d e f g h r = joined_7 (a ++ b) c d e f g h r ∙ append_assoc a b ((c ++ (d ++ (e ++ (f ++ (g ++ (h ++ r)))))))
+
+-- ---- and how long they are
+
+long_3 : (a b c : List ℕ) → length ((a ++ b) ++ c) ≡ length a + length b + length c
+long_3 a b c = length-append (a ++ b) c ∙ ap (λ (n : ℕ). n + length c) (length-append a b)
+
+long_4 : (a b c d : List ℕ) → length (((a ++ b) ++ c) ++ d) ≡ length a + length b + length c + length d
+long_4 a b c d = length-append ((a ++ b) ++ c) d ∙ ap (λ (n : ℕ). n + length d) (long_3 a b c)
+
+pub long_5 : (a b c d e : List ℕ) → length ((((a ++ b) ++ c) ++ d) ++ e) ≡ length a + length b + length c + length d + length e
+long_5 a b c d e = length-append (((a ++ b) ++ c) ++ d) e ∙ ap (λ (n : ℕ). n + length e) (long_4 a b c d)
+
+pub long_6 : (a b c d e f : List ℕ) → length (((((a ++ b) ++ c) ++ d) ++ e) ++ f) ≡ length a + length b + length c + length d + length e + length f
+long_6 a b c d e f = length-append ((((a ++ b) ++ c) ++ d) ++ e) f ∙ ap (λ (n : ℕ). n + length f) (long_5 a b c d e)
+
+pub long_7 : (a b c d e f g : List ℕ) → length ((((((a ++ b) ++ c) ++ d) ++ e) ++ f) ++ g) ≡ length a + length b + length c + length d + length e + length f + length g
+long_7 a b c d e f g = length-append (((((a ++ b) ++ c) ++ d) ++ e) ++ f) g ∙ ap (λ (n : ℕ). n + length g) (long_6 a b c d e f)

@@ -1,8 +1,11 @@
+pub mod AgainLaws
 pub mod BasicLaws
+pub mod CarriedLaws
 pub mod FrameLaws
 pub mod HeaderLaws
 pub mod Joined
 pub mod QueueLaws
 pub mod SmallClassLaws
+pub mod TableLaws
 pub mod UsedLaws
 pub mod WritingLaws

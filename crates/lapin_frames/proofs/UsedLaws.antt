@@ -7,14 +7,11 @@ use Rattle.lapin_fields.specs.declared.fault.ReadFault.{ReadFault}
 use Rattle.lapin_fields.specs.Around.{around_at, and_more, ended, wanted_behind}
 use Rattle.lapin_fields.specs.Reading.{◌>>=◌, octet_at, piece_at, GivesWhole}
 use Rattle.lapin_fields.proofs.PartLaws.{around_more}
+use Rattle.lapin_fields.proofs.ReadingLaws.{bind_some}
 use Rattle.lapin_frames.specs.FrameReading.{frame_in, heartbeat_in, read_in, read_at, used}
 use Rattle.lapin_frames.specs.declared.frames.Read.{Read}
 use Rattle.lapin_frames.specs.declared.frames.Read.TheVariants as read
 use Rattle.std.proofs.lemmas.Option.{none-some}
-
-bind_some : {A B : Type 0} (m : Option A) (k : A → Option B) (y : B) → (m >>= k) ≡ Some y → (x : A) × (m ≡ Some x) × (k x ≡ Some y)
-bind_some None k y e = absurd cc
-bind_some (Some x) k y e = (x, refl, e)
 
 abbrev Around : Type 0
 Around = ℕ × ℕ × List ℕ

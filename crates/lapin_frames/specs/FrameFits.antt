@@ -1,5 +1,6 @@
--- What a frame has room for: numbers in their widths, short texts, and tables that nest at most eight levels, all with their lengths.
-use Rattle.std.specs.Prelude.{◌^◌, ◌<◌, Option, Some, None, Result, Ok, Err}
+-- What a frame has room for: numbers in their widths, short texts, and tables, all with their lengths. One that is given by its values nests at
+-- most eight levels; of what is carried only the length counts.
+use Rattle.std.specs.Prelude.{ℕ, ◌^◌, ◌<◌, List, Option, Some, None, Result, Ok, Err}
 use Rattle.lapin_values.specs.Properties.{Properties}
 use Rattle.lapin_methods.specs.declared.frame.ContentHeader.{ContentHeader}
 use Rattle.lapin_methods.specs.declared.frame.Frame.{Frame}
@@ -25,8 +26,9 @@ use Rattle.lapin_methods.specs.declared.tx.TxMethod.TheVariants as tx_method
 use Rattle.lapin_fields.specs.declared.fault.WriteFault.{WriteFault}
 use Rattle.lapin_fields.specs.declared.fault.WriteFault.TheVariants as faults
 use Rattle.lapin_fields.specs.Fits.{TextFits, StringFits, TableFits}
+use Rattle.lapin_fields.specs.Opaque.{ArgumentsFit}
 use Rattle.lapin_frames.specs.Methods.{method_bytes}
-use Rattle.lapin_frames.specs.Headers.{header_bytes}
+use Rattle.lapin_frames.specs.Headers.{carried_list, header_bytes}
 
 -- a method of the class connection
 abbrev pub ConnectionFits : ConnectionMethod → Type 0
@@ -49,33 +51,33 @@ AccessFits access_method.RequestOk = Unit {0}
 
 -- a method of the class exchange
 abbrev pub ExchangeFits : ExchangeMethod → Type 0
-ExchangeFits (exchange_method.Declare exchange kind passive durable auto_delete internal nowait arguments) = TextFits exchange × TextFits kind × TableFits arguments
+ExchangeFits (exchange_method.Declare exchange kind passive durable auto_delete internal nowait arguments) = TextFits exchange × TextFits kind × ArgumentsFit arguments
 ExchangeFits exchange_method.DeclareOk = Unit {0}
 ExchangeFits (exchange_method.Delete exchange if_unused nowait) = TextFits exchange
 ExchangeFits exchange_method.DeleteOk = Unit {0}
-ExchangeFits (exchange_method.Bind destination source routing_key nowait arguments) = TextFits destination × TextFits source × TextFits routing_key × TableFits arguments
+ExchangeFits (exchange_method.Bind destination source routing_key nowait arguments) = TextFits destination × TextFits source × TextFits routing_key × ArgumentsFit arguments
 ExchangeFits exchange_method.BindOk = Unit {0}
-ExchangeFits (exchange_method.Unbind destination source routing_key nowait arguments) = TextFits destination × TextFits source × TextFits routing_key × TableFits arguments
+ExchangeFits (exchange_method.Unbind destination source routing_key nowait arguments) = TextFits destination × TextFits source × TextFits routing_key × ArgumentsFit arguments
 ExchangeFits exchange_method.UnbindOk = Unit {0}
 
 -- a method of the class queue
 abbrev pub QueueFits : QueueMethod → Type 0
-QueueFits (queue_method.Declare queue passive durable exclusive auto_delete nowait arguments) = TextFits queue × TableFits arguments
+QueueFits (queue_method.Declare queue passive durable exclusive auto_delete nowait arguments) = TextFits queue × ArgumentsFit arguments
 QueueFits (queue_method.DeclareOk queue message_count consumer_count) = TextFits queue × (message_count < 2 ^ 32) × (consumer_count < 2 ^ 32)
-QueueFits (queue_method.Bind queue exchange routing_key nowait arguments) = TextFits queue × TextFits exchange × TextFits routing_key × TableFits arguments
+QueueFits (queue_method.Bind queue exchange routing_key nowait arguments) = TextFits queue × TextFits exchange × TextFits routing_key × ArgumentsFit arguments
 QueueFits queue_method.BindOk = Unit {0}
 QueueFits (queue_method.Purge queue nowait) = TextFits queue
 QueueFits (queue_method.PurgeOk message_count) = (message_count < 2 ^ 32)
 QueueFits (queue_method.Delete queue if_unused if_empty nowait) = TextFits queue
 QueueFits (queue_method.DeleteOk message_count) = (message_count < 2 ^ 32)
-QueueFits (queue_method.Unbind queue exchange routing_key arguments) = TextFits queue × TextFits exchange × TextFits routing_key × TableFits arguments
+QueueFits (queue_method.Unbind queue exchange routing_key arguments) = TextFits queue × TextFits exchange × TextFits routing_key × ArgumentsFit arguments
 QueueFits queue_method.UnbindOk = Unit {0}
 
 -- a method of the class basic
 abbrev pub BasicFits : BasicMethod → Type 0
 BasicFits (basic_method.Qos prefetch_count global) = (prefetch_count < 2 ^ 16)
 BasicFits basic_method.QosOk = Unit {0}
-BasicFits (basic_method.Consume queue consumer_tag no_local no_ack exclusive nowait arguments) = TextFits queue × TextFits consumer_tag × TableFits arguments
+BasicFits (basic_method.Consume queue consumer_tag no_local no_ack exclusive nowait arguments) = TextFits queue × TextFits consumer_tag × ArgumentsFit arguments
 BasicFits (basic_method.ConsumeOk consumer_tag) = TextFits consumer_tag
 BasicFits (basic_method.Cancel consumer_tag nowait) = TextFits consumer_tag
 BasicFits (basic_method.CancelOk consumer_tag) = TextFits consumer_tag
@@ -134,9 +136,14 @@ NextFit p = GivenFits (λ n. n < 2 ^ 8) p.priority × GivenFits TextFits p.corre
 abbrev pub LastFit : Properties → Type 0
 LastFit p = GivenFits TextFits p.message_id × GivenFits (λ n. n < 2 ^ 64) p.timestamp × GivenFits TextFits p.kind × GivenFits TextFits p.user_id × GivenFits TextFits p.app_id × GivenFits TextFits p.cluster_id
 
+-- of a list that is carried nothing is asked, and else each property has room
+abbrev pub ListFits : Option (List ℕ) → Properties → Type 0
+ListFits (Some list) p = Unit {0}
+ListFits None p = FirstFit p × NextFit p × LastFit p
+
 -- the properties of a message
 abbrev pub PropertiesFit : Properties → Type 0
-PropertiesFit p = FirstFit p × NextFit p × LastFit p
+PropertiesFit p = ListFits (carried_list p) p
 
 -- a content header
 abbrev pub HeaderFits : ContentHeader → Type 0

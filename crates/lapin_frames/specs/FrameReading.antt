@@ -6,8 +6,17 @@ use Rattle.lapin_fields.specs.Around.{around_at}
 use Rattle.lapin_fields.specs.Reading.{◌>>=◌}
 use Rattle.lapin_frames.specs.declared.frames.Read.{Read}
 use Rattle.lapin_frames.specs.declared.frames.Read.TheVariants as read
-use Rattle.lapin_frames.specs.HeaderReading.{header_in, whole}
+use Rattle.lapin_frames.specs.HeaderReading.{header_in}
 use Rattle.lapin_frames.specs.MethodReading.{method_at}
+
+-- nothing may follow
+abbrev pub whole : {A : Type 0} → Option (A × List ℕ) → Option A
+whole None = None
+whole (Some x) = if_none x.1 x.0
+  where
+    if_none : {A : Type 0} → List ℕ → A → Option A
+    if_none [] a = Some a
+    if_none (b ∷ bs) a = None
 
 -- the frame of that type on a channel, whose payload has no octet too many
 abbrev pub frame_in : ℕ → ℕ → List ℕ → Option Frame

@@ -1,9 +1,12 @@
--- Content headers: the class, two octets that are 0, the size of the content, a flag for each property that is given, from the highest
--- bit, and these properties in order.
-use Rattle.std.specs.Prelude.{ℕ, false, List, [], ◌∷◌, ◌++◌, Option, Some, None, is_some}
+-- Content headers: the class, two octets that are 0, the size of the content, and the list of properties: a flag for each that is given, from the
+-- highest bit, and these properties in order; or, of properties that carry a list, its octets.
+use Rattle.std.specs.Prelude.{ℕ, false, List, [], ◌∷◌, ◌++◌, Option, Some, None, is_some, if◌then◌else◌, nat_eq}
+use Rattle.std.specs.Cmp.Lexicographic.{pointwise}
 use Rattle.lapin_values.specs.Properties.{Properties}
 use Rattle.lapin_methods.specs.declared.frame.ContentHeader.{ContentHeader}
 use Rattle.lapin_fields.specs.Fields.{octet, short, wide, text, flags}
+use Rattle.lapin_fields.specs.Opaque.{carried}
+use Rattle.lapin_fields.specs.Reading.{◌>>=◌}
 use Rattle.lapin_fields.specs.Values.{table_bytes}
 
 -- a property where it is given
@@ -29,9 +32,22 @@ next_properties p = given octet p.priority ++ given text p.correlation_id ++ giv
 abbrev pub last_properties : Properties → List ℕ
 last_properties p = given text p.message_id ++ given wide p.timestamp ++ given text p.kind ++ given text p.user_id ++ given text p.app_id ++ given text p.cluster_id
 
--- the property list
+-- the properties one by one, behind their flags
+abbrev pub listed_bytes : Properties → List ℕ
+listed_bytes p = property_flags p ++ first_properties p ++ next_properties p ++ last_properties p
+
+-- the list that properties carry, if they do: of all properties the headers alone are given, as their flags say, and carry it
+abbrev pub carried_list : Properties → Option (List ℕ)
+carried_list p = if pointwise nat_eq (property_flags p) (32 ∷ 0 ∷ []) then (p.headers >>= carried) else None
+
+-- a list that is carried, and else the properties one by one
+abbrev pub list_by : Option (List ℕ) → Properties → List ℕ
+list_by (Some list) p = list
+list_by None p = listed_bytes p
+
+-- the property list: the one that the properties carry, or theirs one by one
 abbrev pub properties_bytes : Properties → List ℕ
-properties_bytes p = property_flags p ++ first_properties p ++ next_properties p ++ last_properties p
+properties_bytes p = list_by (carried_list p) p
 
 -- a content header without its properties
 abbrev pub header_front : ContentHeader → List ℕ

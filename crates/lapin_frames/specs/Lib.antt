@@ -1,3 +1,4 @@
+pub mod Carried
 pub mod FrameFits
 pub mod FrameReading
 pub mod Frames

@@ -1,9 +1,9 @@
 -- Reading the fields of a method of a number, in the order that they are written in. What the standard reserves is passed over whatever
--- it is, and so are the bits of an octet of flags that no flag has.
+-- it is, and so are the bits of an octet of flags that no flag has. A table of arguments is carried as the octets that it is.
 use Rattle.std.specs.Prelude.{ℕ, ◌==◌, List, Option, Some, None, if◌then◌else◌}
 use Rattle.lapin_methods.specs.declared.method.Method.{Method}
 use Rattle.lapin_methods.specs.declared.method.Method.TheVariants as method
-use Rattle.lapin_fields.specs.ValueReading.{table_at}
+use Rattle.lapin_fields.specs.Opaque.{opaque_at}
 use Rattle.lapin_fields.specs.Reading.{◌>>=◌, octet_at, short_at, long_at, wide_at, text_at, reply_at, counted_at, string_at, bit_at}
 use Rattle.lapin_methods.specs.declared.connection.ConnectionMethod.{ConnectionMethod}
 use Rattle.lapin_methods.specs.declared.connection.ConnectionMethod.TheVariants as connection_method
@@ -68,28 +68,28 @@ tx_at n bytes =
 -- a method of the class exchange
 abbrev pub exchange_at : ℕ → List ℕ → Option (ExchangeMethod × List ℕ)
 exchange_at n bytes =
-    if n == 10 then (short_at bytes >>= λ r1. text_at r1.1 >>= λ exchange. text_at exchange.1 >>= λ kind. octet_at kind.1 >>= λ flags. table_at flags.1 >>= λ arguments. Some ((exchange_method.Declare exchange.0 kind.0 (bit_at 1 flags.0) (bit_at 2 flags.0) (bit_at 4 flags.0) (bit_at 8 flags.0) (bit_at 16 flags.0) arguments.0), arguments.1)) else
+    if n == 10 then (short_at bytes >>= λ r1. text_at r1.1 >>= λ exchange. text_at exchange.1 >>= λ kind. octet_at kind.1 >>= λ flags. opaque_at flags.1 >>= λ arguments. Some ((exchange_method.Declare exchange.0 kind.0 (bit_at 1 flags.0) (bit_at 2 flags.0) (bit_at 4 flags.0) (bit_at 8 flags.0) (bit_at 16 flags.0) arguments.0), arguments.1)) else
     if n == 11 then (Some (exchange_method.DeclareOk, bytes)) else
     if n == 20 then (short_at bytes >>= λ r1. text_at r1.1 >>= λ exchange. octet_at exchange.1 >>= λ flags. Some ((exchange_method.Delete exchange.0 (bit_at 1 flags.0) (bit_at 2 flags.0)), flags.1)) else
     if n == 21 then (Some (exchange_method.DeleteOk, bytes)) else
-    if n == 30 then (short_at bytes >>= λ r1. text_at r1.1 >>= λ destination. text_at destination.1 >>= λ source. text_at source.1 >>= λ routing_key. octet_at routing_key.1 >>= λ flags. table_at flags.1 >>= λ arguments. Some ((exchange_method.Bind destination.0 source.0 routing_key.0 (bit_at 1 flags.0) arguments.0), arguments.1)) else
+    if n == 30 then (short_at bytes >>= λ r1. text_at r1.1 >>= λ destination. text_at destination.1 >>= λ source. text_at source.1 >>= λ routing_key. octet_at routing_key.1 >>= λ flags. opaque_at flags.1 >>= λ arguments. Some ((exchange_method.Bind destination.0 source.0 routing_key.0 (bit_at 1 flags.0) arguments.0), arguments.1)) else
     if n == 31 then (Some (exchange_method.BindOk, bytes)) else
-    if n == 40 then (short_at bytes >>= λ r1. text_at r1.1 >>= λ destination. text_at destination.1 >>= λ source. text_at source.1 >>= λ routing_key. octet_at routing_key.1 >>= λ flags. table_at flags.1 >>= λ arguments. Some ((exchange_method.Unbind destination.0 source.0 routing_key.0 (bit_at 1 flags.0) arguments.0), arguments.1)) else
+    if n == 40 then (short_at bytes >>= λ r1. text_at r1.1 >>= λ destination. text_at destination.1 >>= λ source. text_at source.1 >>= λ routing_key. octet_at routing_key.1 >>= λ flags. opaque_at flags.1 >>= λ arguments. Some ((exchange_method.Unbind destination.0 source.0 routing_key.0 (bit_at 1 flags.0) arguments.0), arguments.1)) else
     if n == 51 then (Some (exchange_method.UnbindOk, bytes)) else
     None
 
 -- a method of the class queue
 abbrev pub queue_at : ℕ → List ℕ → Option (QueueMethod × List ℕ)
 queue_at n bytes =
-    if n == 10 then (short_at bytes >>= λ r1. text_at r1.1 >>= λ queue. octet_at queue.1 >>= λ flags. table_at flags.1 >>= λ arguments. Some ((queue_method.Declare queue.0 (bit_at 1 flags.0) (bit_at 2 flags.0) (bit_at 4 flags.0) (bit_at 8 flags.0) (bit_at 16 flags.0) arguments.0), arguments.1)) else
+    if n == 10 then (short_at bytes >>= λ r1. text_at r1.1 >>= λ queue. octet_at queue.1 >>= λ flags. opaque_at flags.1 >>= λ arguments. Some ((queue_method.Declare queue.0 (bit_at 1 flags.0) (bit_at 2 flags.0) (bit_at 4 flags.0) (bit_at 8 flags.0) (bit_at 16 flags.0) arguments.0), arguments.1)) else
     if n == 11 then (text_at bytes >>= λ queue. long_at queue.1 >>= λ message_count. long_at message_count.1 >>= λ consumer_count. Some ((queue_method.DeclareOk queue.0 message_count.0 consumer_count.0), consumer_count.1)) else
-    if n == 20 then (short_at bytes >>= λ r1. text_at r1.1 >>= λ queue. text_at queue.1 >>= λ exchange. text_at exchange.1 >>= λ routing_key. octet_at routing_key.1 >>= λ flags. table_at flags.1 >>= λ arguments. Some ((queue_method.Bind queue.0 exchange.0 routing_key.0 (bit_at 1 flags.0) arguments.0), arguments.1)) else
+    if n == 20 then (short_at bytes >>= λ r1. text_at r1.1 >>= λ queue. text_at queue.1 >>= λ exchange. text_at exchange.1 >>= λ routing_key. octet_at routing_key.1 >>= λ flags. opaque_at flags.1 >>= λ arguments. Some ((queue_method.Bind queue.0 exchange.0 routing_key.0 (bit_at 1 flags.0) arguments.0), arguments.1)) else
     if n == 21 then (Some (queue_method.BindOk, bytes)) else
     if n == 30 then (short_at bytes >>= λ r1. text_at r1.1 >>= λ queue. octet_at queue.1 >>= λ flags. Some ((queue_method.Purge queue.0 (bit_at 1 flags.0)), flags.1)) else
     if n == 31 then (long_at bytes >>= λ message_count. Some ((queue_method.PurgeOk message_count.0), message_count.1)) else
     if n == 40 then (short_at bytes >>= λ r1. text_at r1.1 >>= λ queue. octet_at queue.1 >>= λ flags. Some ((queue_method.Delete queue.0 (bit_at 1 flags.0) (bit_at 2 flags.0) (bit_at 4 flags.0)), flags.1)) else
     if n == 41 then (long_at bytes >>= λ message_count. Some ((queue_method.DeleteOk message_count.0), message_count.1)) else
-    if n == 50 then (short_at bytes >>= λ r1. text_at r1.1 >>= λ queue. text_at queue.1 >>= λ exchange. text_at exchange.1 >>= λ routing_key. table_at routing_key.1 >>= λ arguments. Some ((queue_method.Unbind queue.0 exchange.0 routing_key.0 arguments.0), arguments.1)) else
+    if n == 50 then (short_at bytes >>= λ r1. text_at r1.1 >>= λ queue. text_at queue.1 >>= λ exchange. text_at exchange.1 >>= λ routing_key. opaque_at routing_key.1 >>= λ arguments. Some ((queue_method.Unbind queue.0 exchange.0 routing_key.0 arguments.0), arguments.1)) else
     if n == 51 then (Some (queue_method.UnbindOk, bytes)) else
     None
 
@@ -98,7 +98,7 @@ abbrev pub basic_at : ℕ → List ℕ → Option (BasicMethod × List ℕ)
 basic_at n bytes =
     if n == 10 then (long_at bytes >>= λ r1. short_at r1.1 >>= λ prefetch_count. octet_at prefetch_count.1 >>= λ flags. Some ((basic_method.Qos prefetch_count.0 (bit_at 1 flags.0)), flags.1)) else
     if n == 11 then (Some (basic_method.QosOk, bytes)) else
-    if n == 20 then (short_at bytes >>= λ r1. text_at r1.1 >>= λ queue. text_at queue.1 >>= λ consumer_tag. octet_at consumer_tag.1 >>= λ flags. table_at flags.1 >>= λ arguments. Some ((basic_method.Consume queue.0 consumer_tag.0 (bit_at 1 flags.0) (bit_at 2 flags.0) (bit_at 4 flags.0) (bit_at 8 flags.0) arguments.0), arguments.1)) else
+    if n == 20 then (short_at bytes >>= λ r1. text_at r1.1 >>= λ queue. text_at queue.1 >>= λ consumer_tag. octet_at consumer_tag.1 >>= λ flags. opaque_at flags.1 >>= λ arguments. Some ((basic_method.Consume queue.0 consumer_tag.0 (bit_at 1 flags.0) (bit_at 2 flags.0) (bit_at 4 flags.0) (bit_at 8 flags.0) arguments.0), arguments.1)) else
     if n == 21 then (text_at bytes >>= λ consumer_tag. Some ((basic_method.ConsumeOk consumer_tag.0), consumer_tag.1)) else
     if n == 30 then (text_at bytes >>= λ consumer_tag. octet_at consumer_tag.1 >>= λ flags. Some ((basic_method.Cancel consumer_tag.0 (bit_at 1 flags.0)), flags.1)) else
     if n == 31 then (text_at bytes >>= λ consumer_tag. Some ((basic_method.CancelOk consumer_tag.0), consumer_tag.1)) else

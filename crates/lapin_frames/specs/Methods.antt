@@ -1,7 +1,7 @@
 -- Methods: the number of the class, the number of the method, and its fields in order. A field that the standard reserves is 0 or empty.
 use Rattle.std.specs.Prelude.{ℕ, List, [], ◌∷◌, ◌++◌}
 use Rattle.lapin_fields.specs.Fields.{short, long, wide, text, counted, flags}
-use Rattle.lapin_fields.specs.Values.{table_bytes}
+use Rattle.lapin_fields.specs.Opaque.{arguments_bytes}
 use Rattle.lapin_methods.specs.Numbers.{class_number}
 use Rattle.lapin_methods.specs.declared.method.Method.{Method}
 use Rattle.lapin_methods.specs.declared.method.Method.TheVariants as method
@@ -51,28 +51,28 @@ access_bytes access_method.RequestOk = short 11 ++ short 0
 
 -- a method of the class exchange without the number of its class
 abbrev pub exchange_bytes : ExchangeMethod → List ℕ
-exchange_bytes (exchange_method.Declare exchange kind passive durable auto_delete internal nowait arguments) = short 10 ++ short 0 ++ text exchange ++ text kind ++ flags (passive ∷ durable ∷ auto_delete ∷ internal ∷ nowait ∷ []) ++ table_bytes arguments
+exchange_bytes (exchange_method.Declare exchange kind passive durable auto_delete internal nowait arguments) = short 10 ++ short 0 ++ text exchange ++ text kind ++ flags (passive ∷ durable ∷ auto_delete ∷ internal ∷ nowait ∷ []) ++ arguments_bytes arguments
 exchange_bytes exchange_method.DeclareOk = short 11
 exchange_bytes (exchange_method.Delete exchange if_unused nowait) = short 20 ++ short 0 ++ text exchange ++ flags (if_unused ∷ nowait ∷ [])
 exchange_bytes exchange_method.DeleteOk = short 21
-exchange_bytes (exchange_method.Bind destination source routing_key nowait arguments) = short 30 ++ short 0 ++ text destination ++ text source ++ text routing_key ++ flags (nowait ∷ []) ++ table_bytes arguments
+exchange_bytes (exchange_method.Bind destination source routing_key nowait arguments) = short 30 ++ short 0 ++ text destination ++ text source ++ text routing_key ++ flags (nowait ∷ []) ++ arguments_bytes arguments
 exchange_bytes exchange_method.BindOk = short 31
-exchange_bytes (exchange_method.Unbind destination source routing_key nowait arguments) = short 40 ++ short 0 ++ text destination ++ text source ++ text routing_key ++ flags (nowait ∷ []) ++ table_bytes arguments
+exchange_bytes (exchange_method.Unbind destination source routing_key nowait arguments) = short 40 ++ short 0 ++ text destination ++ text source ++ text routing_key ++ flags (nowait ∷ []) ++ arguments_bytes arguments
 exchange_bytes exchange_method.UnbindOk = short 51
 
 -- ---- queue, class 50
 
 -- a method of the class queue without the number of its class
 abbrev pub queue_bytes : QueueMethod → List ℕ
-queue_bytes (queue_method.Declare queue passive durable exclusive auto_delete nowait arguments) = short 10 ++ short 0 ++ text queue ++ flags (passive ∷ durable ∷ exclusive ∷ auto_delete ∷ nowait ∷ []) ++ table_bytes arguments
+queue_bytes (queue_method.Declare queue passive durable exclusive auto_delete nowait arguments) = short 10 ++ short 0 ++ text queue ++ flags (passive ∷ durable ∷ exclusive ∷ auto_delete ∷ nowait ∷ []) ++ arguments_bytes arguments
 queue_bytes (queue_method.DeclareOk queue message_count consumer_count) = short 11 ++ text queue ++ long message_count ++ long consumer_count
-queue_bytes (queue_method.Bind queue exchange routing_key nowait arguments) = short 20 ++ short 0 ++ text queue ++ text exchange ++ text routing_key ++ flags (nowait ∷ []) ++ table_bytes arguments
+queue_bytes (queue_method.Bind queue exchange routing_key nowait arguments) = short 20 ++ short 0 ++ text queue ++ text exchange ++ text routing_key ++ flags (nowait ∷ []) ++ arguments_bytes arguments
 queue_bytes queue_method.BindOk = short 21
 queue_bytes (queue_method.Purge queue nowait) = short 30 ++ short 0 ++ text queue ++ flags (nowait ∷ [])
 queue_bytes (queue_method.PurgeOk message_count) = short 31 ++ long message_count
 queue_bytes (queue_method.Delete queue if_unused if_empty nowait) = short 40 ++ short 0 ++ text queue ++ flags (if_unused ∷ if_empty ∷ nowait ∷ [])
 queue_bytes (queue_method.DeleteOk message_count) = short 41 ++ long message_count
-queue_bytes (queue_method.Unbind queue exchange routing_key arguments) = short 50 ++ short 0 ++ text queue ++ text exchange ++ text routing_key ++ table_bytes arguments
+queue_bytes (queue_method.Unbind queue exchange routing_key arguments) = short 50 ++ short 0 ++ text queue ++ text exchange ++ text routing_key ++ arguments_bytes arguments
 queue_bytes queue_method.UnbindOk = short 51
 
 -- ---- basic, class 60
@@ -81,7 +81,7 @@ queue_bytes queue_method.UnbindOk = short 51
 abbrev pub basic_bytes : BasicMethod → List ℕ
 basic_bytes (basic_method.Qos prefetch_count global) = short 10 ++ long 0 ++ short prefetch_count ++ flags (global ∷ [])
 basic_bytes basic_method.QosOk = short 11
-basic_bytes (basic_method.Consume queue consumer_tag no_local no_ack exclusive nowait arguments) = short 20 ++ short 0 ++ text queue ++ text consumer_tag ++ flags (no_local ∷ no_ack ∷ exclusive ∷ nowait ∷ []) ++ table_bytes arguments
+basic_bytes (basic_method.Consume queue consumer_tag no_local no_ack exclusive nowait arguments) = short 20 ++ short 0 ++ text queue ++ text consumer_tag ++ flags (no_local ∷ no_ack ∷ exclusive ∷ nowait ∷ []) ++ arguments_bytes arguments
 basic_bytes (basic_method.ConsumeOk consumer_tag) = short 21 ++ text consumer_tag
 basic_bytes (basic_method.Cancel consumer_tag nowait) = short 30 ++ text consumer_tag ++ flags (nowait ∷ [])
 basic_bytes (basic_method.CancelOk consumer_tag) = short 31 ++ text consumer_tag

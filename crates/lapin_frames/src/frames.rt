@@ -1,17 +1,16 @@
 //! Frames: a method, a content header or a body with what stands around it (AMQP 0-9-1, section 4.2.3).
 
-ghost use Rattle.std.specs.Prelude.{◌≡◌, ◌++◌, ◌∷◌, ◌<◌, ◌≤◌, [], length, OnOk, OnErr, IfOk, Ok};
+ghost use Rattle.std.specs.Prelude.{◌≡◌, ◌++◌, ◌∷◌, ◌<◌, ◌≤◌, [], length, OnOk, OnErr, IfOk, IfErr, Ok};
 ghost use Rattle.lapin_fields.specs.Around.{around, wanted_behind};
 ghost use Rattle.lapin_fields.specs.Fits.{Refused, StringFits};
 ghost use Rattle.lapin_fields.specs.Reading.{GivesWhole};
-ghost use Rattle.lapin_frames.specs.FrameFits.{FrameFits, RefusedWithin};
-ghost use Rattle.lapin_frames.specs.FrameReading.{frame_in, heartbeat_in, read_in, read_at, used};
+ghost use Rattle.lapin_frames.specs.FrameFits.{FrameFits, MethodFits, RefusedWithin};
+ghost use Rattle.lapin_frames.specs.FrameReading.{frame_in, heartbeat_in, read_in, read_at, used, whole};
 ghost use Rattle.lapin_frames.specs.Frames.{bytes_of};
-ghost use Rattle.lapin_frames.specs.HeaderReading.{whole};
 ghost use Rattle.lapin_frames.specs.MethodReading.{method_at};
+ghost use Rattle.lapin_frames.specs.Methods.{method_bytes};
 
-use crate::header_reading::header_of;
-use crate::headers::put_header;
+use crate::headers::{header_of, put_header};
 use crate::methods::{put_method, take_method};
 use lapin_fields::{Around, Octets, ReadFault, WriteFault, put_around, take_around, wanted};
 use lapin_methods::{Frame, Method};
@@ -177,13 +176,37 @@ pub fn put_frame_within(
 pub fn put_heartbeat(out: &mut Vec<u8>) -> Result<(), WriteFault>
     ensures ok { OnOk result (out.new.items ≡ out.old.items ++ around 8 0 []) }
     ensures err { OnErr result (out.new.items ≡ out.old.items) }
+    ensures cause { IfErr result (λ e. e ≡ WriteFault.NoMemory) }
 {
     out.extend_from_slice(&[HEARTBEAT, 0, 0, 0, 0, 0, 0, 0xCE])?;
     Ok(())
 }
 
-// The method that the bytes are.
-fn method_of(alloc: Global, payload: &[u8]) -> Result<Method, ReadFault>
+/// Adds the octets of a method, from its class on: what is in its frame; or nothing.
+///
+/// # Errors
+/// `TooLong` and `TooDeep` exactly where the method does not fit, and `NoMemory`.
+pub fn put_method_octets(
+    alloc: Global,
+    out: &mut Vec<u8>,
+    method: &Method,
+) -> Result<(), WriteFault>
+    ensures ok { OnOk result (out.new.items ≡ out.old.items ++ method_bytes method.now) }
+    ensures fits { OnOk result (MethodFits method.now) }
+    ensures err { OnErr result (out.new.items ≡ out.old.items) }
+    ensures refused { Refused result (MethodFits method.now) }
+{
+    let mut whole = Vec::with_capacity(alloc, USUAL)?;
+    put_method(alloc, &mut whole, method)?;
+    out.extend_from_slice(&whole)?;
+    Ok(())
+}
+
+/// The method that octets are, from its class on: what is in its frame.
+///
+/// # Errors
+/// `Malformed` exactly where they are none, and `NoMemory`.
+pub fn method_in(alloc: Global, payload: &[u8]) -> Result<Method, ReadFault>
     ensures { GivesWhole result (whole (method_at payload.now)) }
 {
     let mut octets = Octets::new(payload);
@@ -202,7 +225,7 @@ fn frame_of(alloc: Global, kind: u8, channel: u16, payload: &[u8]) -> Result<Fra
     ensures { GivesWhole result (frame_in kind channel payload.now) }
 {
     match kind {
-        METHOD => Ok(Frame::Method(channel, method_of(alloc, payload)?)),
+        METHOD => Ok(Frame::Method(channel, method_in(alloc, payload)?)),
         HEADER => Ok(Frame::Header(channel, header_of(alloc, payload)?)),
         BODY => Ok(Frame::Body(channel, Payload::new(alloc, payload)?)),
         _ => Err(ReadFault::Malformed),
@@ -240,7 +263,6 @@ fn read_around(alloc: Global, around: &Around) -> Result<Read, ReadFault>
 ///
 /// # Errors
 /// `Malformed` where it is no frame that a broker sends behind the handshake, and `NoMemory`.
-
 pub fn read_frame(alloc: Global, bytes: &[u8]) -> Result<Read, ReadFault>
     ensures part { 0 < wanted_behind bytes.now → result ≡ Ok Read.Part }
     ensures found { wanted_behind bytes.now ≡ 0 → GivesWhole result (read_at bytes.now) }

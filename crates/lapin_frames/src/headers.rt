@@ -1,17 +1,27 @@
-//! Content headers, written: the class, the size of the content, a flag for each property that is given, and these properties (AMQP
-//! 0-9-1, section 4.2.6.1).
+//! Content headers: the class, the size of the content, and the list of its properties (AMQP 0-9-1, section 4.2.6.1). A list is read as the octets
+//! that it is, which the properties then carry, and written so; properties that carry none are written by a flag for each that is given, and these
+//! properties in order.
 
-ghost use Rattle.std.specs.Prelude.{◌≡◌, ◌++◌, ◌∷◌, ◌<◌, ◌^◌, [], false, OnOk, is_some, option_map};
+ghost use Rattle.std.specs.Prelude.{◌≡◌, ◌++◌, ◌∷◌, ◌<◌, ◌^◌, [], false, OnOk, OnErr, is_some, option_map};
 ghost use Rattle.lapin_fields.specs.Fields.{octet, wide, text as text_bytes, bits};
 ghost use Rattle.lapin_fields.specs.Values.{table_bytes};
 ghost use Rattle.lapin_fields.specs.Fits.{TextFits, TableFits, Refused};
+ghost use Rattle.lapin_fields.specs.Reading.{GivesWhole};
 ghost use Rattle.lapin_frames.specs.FrameFits.{GivenFits, FirstFit, NextFit, LastFit, PropertiesFit, HeaderFits};
-ghost use Rattle.lapin_frames.specs.Headers.{given, header_front, first_properties, next_properties, last_properties, properties_bytes, header_bytes};
+ghost use Rattle.lapin_frames.specs.HeaderReading.{header_in};
+ghost use Rattle.lapin_frames.specs.Headers.{given, header_front, first_properties, next_properties, last_properties, listed_bytes, carried_list as list_carried, properties_bytes, header_bytes};
 
-use lapin_fields::{WriteFault, packed_whole, put_octet, put_short, put_table, put_text, put_wide};
+use crate::carried::carrying;
+use lapin_fields::{
+    Octets, ReadFault, WriteFault, carried, packed_whole, put_octet, put_short, put_table,
+    put_text, put_wide,
+};
 use lapin_methods::ContentHeader;
 use lapin_values::{BasicProperties, NoMemory, ShortString};
 use std::alloc::Global;
+
+// The flag of the headers, and of no other property, in the first octet of flags.
+const HEADERS_ALONE: u8 = 0x20;
 
 fn is_given(text: Option<&ShortString>) -> bool
     ensures { result ≡ is_some (option_map (λ value. value.now) text.entry) }
@@ -130,16 +140,68 @@ fn put_last(out: &mut Vec<u8>, p: &BasicProperties) -> Result<(), NoMemory>
     put_given(out, p.cluster_id())
 }
 
-fn put_properties(alloc: Global, out: &mut Vec<u8>, p: &BasicProperties) -> Result<(), WriteFault>
-    ensures bytes { OnOk result (out.new.items ≡ out.old.items ++ properties_bytes p.now) }
-    ensures fits { OnOk result (PropertiesFit p.now) }
-    ensures refused { Refused result (PropertiesFit p.now) }
+/// The list that properties carry, where of all properties the headers alone are given, and carry it; `None` of any others.
+pub fn carried_list(p: &BasicProperties) -> Option<&[u8]>
+    ensures { option_map (λ list. list.now) result ≡ list_carried p.now }
+{
+    let table = p.headers()?;
+    if first_marks(p) == HEADERS_ALONE && last_marks(p) == 0 {
+        carried(table)
+    } else {
+        None
+    }
+}
+
+// Adds the properties one by one, behind their flags.
+fn put_listed(alloc: Global, out: &mut Vec<u8>, p: &BasicProperties) -> Result<(), WriteFault>
+    ensures bytes { OnOk result (out.new.items ≡ out.old.items ++ listed_bytes p.now) }
+    ensures fits { OnOk result (FirstFit p.now × NextFit p.now × LastFit p.now) }
+    ensures refused { Refused result (FirstFit p.now × NextFit p.now × LastFit p.now) }
 {
     put_octet(out, first_marks(p))?;
     put_octet(out, last_marks(p))?;
     put_first(alloc, out, p)?;
     put_next(out, p)?;
     put_last(out, p)?;
+    Ok(())
+}
+
+// Adds the list of properties: the one that they carry, or theirs one by one.
+fn put_list(alloc: Global, out: &mut Vec<u8>, p: &BasicProperties) -> Result<(), WriteFault>
+    ensures bytes { OnOk result (out.new.items ≡ out.old.items ++ properties_bytes p.now) }
+    ensures fits { OnOk result (PropertiesFit p.now) }
+    ensures refused { Refused result (PropertiesFit p.now) }
+{
+    match carried_list(p) {
+        Some(list) => {
+            out.extend_from_slice(list)?;
+            Ok(())
+        }
+        None => put_listed(alloc, out, p),
+    }
+}
+
+/// Adds the list of properties, flags and all, or nothing: the one that they carry, or theirs one by one.
+///
+/// # Errors
+/// `TooLong` and `TooDeep` exactly where headers that are given by their values do not fit, and `NoMemory`.
+pub fn put_properties(
+    alloc: Global,
+    out: &mut Vec<u8>,
+    p: &BasicProperties,
+) -> Result<(), WriteFault>
+    ensures ok { OnOk result (out.new.items ≡ out.old.items ++ properties_bytes p.now) }
+    ensures fits { OnOk result (PropertiesFit p.now) }
+    ensures err { OnErr result (out.new.items ≡ out.old.items) }
+    ensures refused { Refused result (PropertiesFit p.now) }
+{
+    if let Some(list) = carried_list(p) {
+        out.extend_from_slice(list)?;
+        return Ok(());
+    }
+    let mut whole = Vec::new(alloc);
+    put_listed(alloc, &mut whole, p)?;
+    out.extend_from_slice(&whole)?;
     Ok(())
 }
 
@@ -163,5 +225,21 @@ pub(crate) fn put_header(
     ensures refused { Refused result (HeaderFits header.now) }
 {
     put_front(out, header)?;
-    put_properties(alloc, out, &header.properties)
+    put_list(alloc, out, &header.properties)
+}
+
+/// The content header that the octets are.
+pub(crate) fn header_of(alloc: Global, payload: &[u8]) -> Result<ContentHeader, ReadFault>
+    ensures { GivesWhole result (header_in payload.now) }
+{
+    let mut octets = Octets::new(payload);
+    let class_id = octets.short()?;
+    octets.short()?;
+    let body_size = octets.wide()?;
+    let properties = carrying(alloc, octets.rest())?;
+    Ok(ContentHeader {
+        class_id,
+        body_size,
+        properties,
+    })
 }

@@ -6,22 +6,26 @@
 
 mod access;
 mod basic;
+mod carried;
 mod channel;
 mod confirm;
 mod connection;
 mod exchange;
 mod frames;
-mod header_reading;
 mod headers;
 mod laws;
-mod listed;
 mod methods;
 mod queue;
 mod rows;
 mod tx;
 
-pub use frames::{Read, put_frame, put_frame_within, put_heartbeat, read_frame};
+pub use carried::carrying;
+pub use frames::{
+    Read, method_in, put_frame, put_frame_within, put_heartbeat, put_method_octets, read_frame,
+};
+pub use headers::{carried_list, put_properties};
 pub use lapin_fields::{ReadFault, WriteFault, wanted};
 pub use laws::{
-    what_follows_changes_nothing, written_frames_are_read, written_heartbeats_are_read,
+    carried_lists_are_written, octets_go_through_untouched, what_follows_changes_nothing,
+    what_is_read_is_carried, written_frames_are_read, written_heartbeats_are_read,
 };

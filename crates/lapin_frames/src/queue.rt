@@ -11,8 +11,8 @@ use crate::rows::{
     put_field, put_flags, put_reserved, put_row, skip_reserved, take_field, take_flags, take_row,
 };
 use lapin_fields::{
-    Octets, ReadFault, WriteFault, packed, put_long, put_octet, put_short, put_table, put_text,
-    take_table, take_text, unpacked,
+    Octets, ReadFault, WriteFault, packed, put_arguments, put_long, put_octet, put_short, put_text,
+    take_opaque, take_text, unpacked,
 };
 use lapin_methods::QueueMethod;
 use std::alloc::Global;

@@ -1,14 +1,14 @@
 //! The rows of a class's table, as code: adding the number and the fields of a method, and reading the fields.
 //!
 //! A row is a method's variant, its number in the class, the fields before its flags, the flags, and the fields behind them. A field is
-//! a `text`, a `table`, a number of 16 bits (`short`), 32 (`long`) or 64 (`wide`), or a `reply` text, which is read whatever its octets
-//! are; or it is one that the standard reserves and that no method here has: a number of 16 or 32 bits, a text or a long string that is
+//! a `text`, a `table`, whose octets nobody reads, a number of 16 bits (`short`), 32 (`long`) or 64 (`wide`), or a `reply` text, which is
+//! read whatever its octets are; or it is one that the standard reserves and that no method here has: a number of 16 or 32 bits, a text or a long string that is
 //! empty.
 
 macro_rules! put_field {
     (text, $alloc:ident, $out:ident, $name:ident) => { put_text($out, $name)?; };
     (reply, $alloc:ident, $out:ident, $name:ident) => { put_text($out, $name)?; };
-    (table, $alloc:ident, $out:ident, $name:ident) => { put_table($alloc, $out, $name)?; };
+    (table, $alloc:ident, $out:ident, $name:ident) => { put_arguments($alloc, $out, $name)?; };
     (short, $alloc:ident, $out:ident, $name:ident) => { put_short($out, *$name)?; };
     (long, $alloc:ident, $out:ident, $name:ident) => { put_long($out, *$name)?; };
     (wide, $alloc:ident, $out:ident, $name:ident) => { put_wide($out, *$name)?; };
@@ -33,7 +33,7 @@ macro_rules! put_flags {
 macro_rules! take_field {
     (text, $alloc:ident, $octets:ident) => { take_text($alloc, $octets)? };
     (reply, $alloc:ident, $octets:ident) => { take_reply($alloc, $octets)? };
-    (table, $alloc:ident, $octets:ident) => { take_table($alloc, $octets)? };
+    (table, $alloc:ident, $octets:ident) => { take_opaque($alloc, $octets)? };
     (short, $alloc:ident, $octets:ident) => { $octets.short()? };
     (long, $alloc:ident, $octets:ident) => { $octets.long()? };
     (wide, $alloc:ident, $octets:ident) => { $octets.wide()? };

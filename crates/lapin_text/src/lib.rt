@@ -27,6 +27,7 @@ pub use laws::{one_line, one_reading, one_text, parsed_as_printed};
 pub use lines::Lines;
 pub use parsing::{Parsed, ReadLine, parse_events, parse_lines, read_max};
 pub use printing::{print_records, write_frame, write_record};
+pub use queued::call_of;
 pub use reading::{read_event, read_frame};
 pub use records::{
     name_of_state, put_answered, put_confirmed, put_error_line, put_handed, put_item,

@@ -1,6 +1,6 @@
 //! What runs the rows. A row is bytes as the text of a session has them, and behind `==` the frame that they are, behind `->` what is
 //! read of them: a frame, with the number of its bytes where more follow; `heartbeat`, `part` with how many bytes are wanted, or
-//! `malformed`. The bytes of a frame behind `==` are also what is written of it.
+//! `malformed`. The bytes of a frame behind `==` are also what is written of it, and those of one behind `<-`, that is given by values.
 use crate::frames::rows::ROWS;
 use lapin_frames::{Read, ReadFault, put_frame, wanted};
 use lapin_text::{read_bytes, read_frame, write_frame};
@@ -16,6 +16,9 @@ fn frames_are_read_and_written_as_the_rows_say(rt: HostRuntime) -> Result<(), Fa
         }
         if let Some((bytes, frame)) = row.split_once(" == ") {
             assert!(rt; is_read(rt.alloc(), bytes, frame)?, "at {row}");
+            assert!(rt; is_written(rt.alloc(), bytes, frame)?, "at {row}");
+        }
+        if let Some((bytes, frame)) = row.split_once(" <- ") {
             assert!(rt; is_written(rt.alloc(), bytes, frame)?, "at {row}");
         }
     }
@@ -36,7 +39,7 @@ fn is_written(alloc: Global, bytes: &str, frame: &str) -> Result<bool, Fail> {
     Ok(written.as_slice() == bytes.as_bytes())
 }
 
-// What is read at the head of the bytes.
+/// What is read at the head of the bytes, as a text.
 fn read(alloc: Global, bytes: &[u8]) -> Result<String, Fail> {
     match lapin_frames::read_frame(alloc, bytes) {
         Ok(Read::Frame(frame, used)) => {

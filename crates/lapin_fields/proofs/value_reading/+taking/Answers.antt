@@ -27,7 +27,7 @@ pairs-loop-turn-preserved t c =
 
 pub pairs-returns-in_err-key : goal.pairs-returns-in_err-key
 pairs-returns-in_err-key t c =
-    let p = err_from_is_err_and c.from_residual.result c.from_residual.ensures.1 in
+    let p = err_from_is_err_and c.from_residual-in_err-key.result c.from_residual-in_err-key.ensures.1 in
     rw (p.1, p.2) (key_fails (value_at c.args.level) (length c.args.piece.now) c.loop-turn._turn c.loop-turn.pairs c.loop-turn.octets _ _ (omega arith) (refuted c.loop-turn.octets c.if-is_empty.ensures) c.loop-turn.invariant c.in_err-key.ensures)
 
 pub pairs-returns-in_err-value : goal.pairs-returns-in_err-value
