@@ -1,1 +1,4 @@
 mod Faults
+mod FirstWords
+mod MechanismLaws
+mod Places

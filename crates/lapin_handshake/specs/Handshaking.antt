@@ -1,5 +1,5 @@
 -- The opening of a connection as a machine (AMQP 0-9-1, section 2.2.4): what is answered to what the broker says, and what is then waited for.
-use Rattle.std.specs.Prelude.{ℕ, ◌==◌, ◌&&◌, Bool, true, false, Result, Ok, Err, if◌then◌else◌, nat_lt}
+use Rattle.std.specs.Prelude.{ℕ, ◌==◌, ◌&&◌, Bool, true, false, Option, Some, None, Result, Ok, Err, if◌then◌else◌, nat_lt}
 use Rattle.lapin_handshake.specs.declared.said.Said.{Said}
 use Rattle.lapin_handshake.specs.declared.said.Said.TheVariants as said
 use Rattle.lapin_handshake.specs.declared.handshake.Limits.{Limits}
@@ -10,10 +10,12 @@ use Rattle.lapin_handshake.specs.declared.handshake.Refusal.TheVariants as refus
 use Rattle.lapin_handshake.specs.declared.handshake.Reply.{Reply}
 use Rattle.lapin_handshake.specs.declared.handshake.Reply.TheVariants as reply
 use Rattle.lapin_handshake.specs.declared.handshake.Handshake.{Handshake}
+use Rattle.lapin_handshake.specs.declared.mechanism.Mechanism.{Mechanism}
+use Rattle.lapin_handshake.specs.Mechanisms.{chosen}
 
 -- nothing came yet
-abbrev pub new_handshake : Limits → Handshake
-new_handshake limits = record { stage = stage.Start; limits = limits }
+abbrev pub new_handshake : Mechanism → Limits → Handshake
+new_handshake wanted limits = record { stage = stage.Start; mechanism = wanted; limits = limits }
 
 -- the lesser limit, where 0 is none
 abbrev pub lesser : ℕ → ℕ → ℕ
@@ -31,9 +33,14 @@ agreed ours theirs = record {
   heartbeat = agreed_beat ours.heartbeat theirs.heartbeat;
 }
 
--- a start is answered where the version is 0-9 and PLAIN is one of the mechanisms
-abbrev pub start_reply : ℕ → ℕ → Bool → Result Reply Refusal
-start_reply major minor plain = if (major == 0) && (minor == 9) then (if plain then Ok reply.StartOk else Err refusal.Mechanism) else Err refusal.Version
+-- a mechanism that was chosen is said, and where none was the connection isn't opened
+abbrev pub saying : Option Mechanism → Result Reply Refusal
+saying (Some m) = Ok (reply.StartOk m)
+saying None = Err refusal.Mechanism
+
+-- a start is answered where the version is 0-9 and a mechanism was chosen of those that are offered
+abbrev pub start_reply : ℕ → ℕ → Option Mechanism → Result Reply Refusal
+start_reply major minor m = if (major == 0) && (minor == 9) then saying m else Err refusal.Version
 
 -- a tune is answered by what both sides keep, where that is no smaller than the smallest frame that a peer may ask for
 abbrev pub tune_reply : Limits → Limits → Result Reply Refusal
@@ -41,7 +48,7 @@ tune_reply ours theirs = if nat_lt (lesser ours.frame_max theirs.frame_max) 4096
 
 -- what has its place at a stage: a start first, then challenges and a tune, then an open-ok; heartbeats and a close at each
 abbrev pub is_awaited : Stage → Said → Bool
-is_awaited stage.Start (said.Start major minor plain) = true
+is_awaited stage.Start (said.Start major minor offers) = true
 is_awaited stage.Tune said.Secure = true
 is_awaited stage.Tune (said.Tune channel_max frame_max heartbeat) = true
 is_awaited stage.Open said.OpenOk = true
@@ -50,32 +57,32 @@ is_awaited _ said.Heartbeat = true
 is_awaited _ (said.Close code) = true
 is_awaited _ _ = false
 
--- what is answered to something that has its place
-abbrev pub reply_of : Limits → Said → Result Reply Refusal
-reply_of ours (said.Start major minor plain) = start_reply major minor plain
-reply_of ours said.Secure = Ok reply.SecureOk
-reply_of ours (said.Tune channel_max frame_max heartbeat) = tune_reply ours (record { channel_max = channel_max; frame_max = frame_max; heartbeat = heartbeat })
-reply_of ours said.OpenOk = Ok reply.Nothing
-reply_of ours said.Heartbeat = Ok reply.Nothing
-reply_of ours (said.Close code) = Err (refusal.Closed code)
-reply_of ours _ = Err refusal.Unexpected
+-- what is answered to something that has its place, by a mechanism; a challenge by the one that was said
+abbrev pub reply_of : Mechanism → Limits → Said → Result Reply Refusal
+reply_of m ours (said.Start major minor offers) = start_reply major minor (chosen m offers)
+reply_of m ours said.Secure = Ok (reply.SecureOk m)
+reply_of m ours (said.Tune channel_max frame_max heartbeat) = tune_reply ours (record { channel_max = channel_max; frame_max = frame_max; heartbeat = heartbeat })
+reply_of m ours said.OpenOk = Ok reply.Nothing
+reply_of m ours said.Heartbeat = Ok reply.Nothing
+reply_of m ours (said.Close code) = Err (refusal.Closed code)
+reply_of m ours _ = Err refusal.Unexpected
 
 -- what is answered
 abbrev pub reply_to : Handshake → Said → Result Reply Refusal
-reply_to h s = if is_awaited h.stage s then reply_of h.limits s else Err refusal.Unexpected
+reply_to h s = if is_awaited h.stage s then reply_of h.mechanism h.limits s else Err refusal.Unexpected
 
 -- where nothing is answered, an open-ok opened the connection
 abbrev pub passed : Said → Handshake → Handshake
-passed said.OpenOk h = record { stage = stage.Opened; limits = h.limits }
+passed said.OpenOk h = record { stage = stage.Opened; mechanism = h.mechanism; limits = h.limits }
 passed _ h = h
 
 -- what an answer leaves
 abbrev pub after_reply : Result Reply Refusal → Said → Handshake → Handshake
-after_reply (Ok (reply.Open limits)) s h = record { stage = stage.Open; limits = limits }
-after_reply (Ok reply.StartOk) s h = record { stage = stage.Tune; limits = h.limits }
+after_reply (Ok (reply.Open limits)) s h = record { stage = stage.Open; mechanism = h.mechanism; limits = limits }
+after_reply (Ok (reply.StartOk m)) s h = record { stage = stage.Tune; mechanism = m; limits = h.limits }
 after_reply (Ok reply.Nothing) s h = passed s h
 after_reply (Ok _) s h = h
-after_reply (Err e) s h = record { stage = stage.Refused; limits = h.limits }
+after_reply (Err e) s h = record { stage = stage.Refused; mechanism = h.mechanism; limits = h.limits }
 
 -- what is then waited for, and the limits
 abbrev pub after : Handshake → Said → Handshake

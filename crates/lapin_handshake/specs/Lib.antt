@@ -1,3 +1,8 @@
+pub mod Words
+pub mod Mechanisms
+pub mod Callers
+pub mod Faults
+pub mod Starting
 pub mod Saying
 pub mod Handshaking
 pub mod Replies

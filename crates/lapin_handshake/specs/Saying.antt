@@ -1,25 +1,16 @@
 -- What the broker says on channel 0: the layout of its methods, field by field (AMQP 0-9-1, class 10).
-use Rattle.std.specs.Prelude.{◌≡◌, ℕ, ◌==◌, Bool, true, false, List, [], ◌∷◌, Option, Some, None, Result, Ok, Err, if◌then◌else◌}
-use Rattle.std.specs.List.{list_any, slice_split}
-use Rattle.std.specs.Str.{bytes_eq}
+use Rattle.std.specs.Prelude.{◌≡◌, ℕ, ◌==◌, List, Option, Some, None, Result, Ok, Err, if◌then◌else◌}
 use Rattle.lapin_fields.specs.Around.{around_at}
-use Rattle.lapin_fields.specs.Reading.{◌>>=◌, octet_at, short_at, long_at, counted_at, string_at, Fails}
+use Rattle.lapin_fields.specs.Reading.{◌>>=◌, short_at, long_at, counted_at, string_at, Fails}
 use Rattle.lapin_fields.specs.declared.fault.ReadFault.{ReadFault}
 use Rattle.lapin_handshake.specs.declared.said.Said.{Said}
 use Rattle.lapin_handshake.specs.declared.said.Said.TheVariants as said
+use Rattle.lapin_handshake.specs.Mechanisms.{offers_of}
+use Rattle.lapin_handshake.specs.Starting.{fields_at, alone}
 
--- the name of the mechanism by which a user and a password are told
-abbrev pub is_plain : List ℕ → Bool
-is_plain word = bytes_eq word (80 ∷ 76 ∷ 65 ∷ 73 ∷ 78 ∷ [])
-
--- a list of words with spaces between them has that name
-abbrev pub lists_plain : List ℕ → Bool
-lists_plain list = list_any is_plain (slice_split (λ b. b == 32) list)
-
--- the version in two octets, the broker's properties, its mechanisms and its locales, each behind its length in four
+-- a start: its version, and which mechanisms its list has
 abbrev pub start_at : List ℕ → Option (Said × List ℕ)
-start_at octets = octet_at octets >>= λ major. octet_at major.1 >>= λ minor. counted_at minor.1 >>= λ properties. counted_at properties.1 >>= λ mechanisms.
-    counted_at mechanisms.1 >>= λ locales. Some (said.Start major.0 minor.0 (lists_plain mechanisms.0), locales.1)
+start_at octets = fields_at octets >>= λ s. Some (said.Start s.0.0 s.0.1 (offers_of s.0.3), s.1)
 
 -- a challenge behind its length in four octets
 abbrev pub secure_at : List ℕ → Option (Said × List ℕ)
@@ -53,12 +44,6 @@ said_at number octets =
     if number == 50 then close_at octets else
     if number == 60 then blocked_at octets else
     if number == 61 then Some (said.Unblocked, octets) else None
-
--- what was read, where nothing is left
-abbrev pub alone : Option (Said × List ℕ) → Option Said
-alone (Some (s, [])) = Some s
-alone (Some (s, _ ∷ _)) = None
-alone None = None
 
 -- a payload: the class, which is 10, the method's number, and its fields and nothing behind them
 abbrev pub method_said : List ℕ → Option Said

@@ -3,6 +3,7 @@
 ghost use Rattle.std.specs.Prelude.{◌≡◌};
 ghost use Rattle.lapin_handshake.specs.Handshaking.{reply_to, after, agreed as agreed_lem, lesser as lesser_lem, agreed_beat as agreed_beat_lem, start_reply, tune_reply, is_awaited as is_awaited_lem, reply_of as reply_of_lem, passed, code_of, new_handshake};
 
+use crate::mechanism::Mechanism;
 use crate::said::Said;
 
 /// What a side takes at most: the number of channels and the octets of a frame, 0 standing for no limit, and the seconds between
@@ -34,7 +35,7 @@ pub enum Stage {
 pub enum Refusal {
     /// The broker speaks another version.
     Version,
-    /// PLAIN isn't one of its mechanisms.
+    /// The mechanism that is wanted isn't one of its own.
     Mechanism,
     /// Its frames are smaller than the smallest that a peer may ask for.
     FrameMax,
@@ -51,20 +52,22 @@ pub enum Refusal {
 pub enum Reply {
     /// Nothing.
     Nothing,
-    /// `connection.start-ok`.
-    StartOk,
-    /// `connection.secure-ok`.
-    SecureOk,
+    /// `connection.start-ok`, which says this mechanism.
+    StartOk(Mechanism),
+    /// `connection.secure-ok`, which says once more what this mechanism says.
+    SecureOk(Mechanism),
     /// `connection.tune-ok` with these limits, and `connection.open`.
     Open(Limits),
     /// `connection.close-ok`.
     CloseOk,
 }
 
-/// An opening: what is waited for, and the limits, which are those of this side before the broker's came.
+/// An opening: what is waited for; the mechanism, which is the one that this side wants until one was said, and then that one; and the
+/// limits, which are those of this side before the broker's came.
 #[derive(Clone, Copy, Debug, PartialEq, Eq)]
 pub struct Handshake {
     pub stage: Stage,
+    pub mechanism: Mechanism,
     pub limits: Limits,
 }
 
@@ -112,16 +115,15 @@ fn agreed(ours: Limits, theirs: Limits) -> Limits
 }
 
 // What a start is answered by.
-fn start(major: u8, minor: u8, plain: bool) -> Result<Reply, Refusal>
-    ensures { result ≡ start_reply major minor plain }
+fn start(major: u8, minor: u8, chosen: Option<Mechanism>) -> Result<Reply, Refusal>
+    ensures { result ≡ start_reply major minor chosen }
 {
     if major != 0 || minor != 9 {
         return Err(Refusal::Version);
     }
-    if plain {
-        Ok(Reply::StartOk)
-    } else {
-        Err(Refusal::Mechanism)
+    match chosen {
+        Some(mechanism) => Ok(Reply::StartOk(mechanism)),
+        None => Err(Refusal::Mechanism),
     }
 }
 
@@ -145,16 +147,16 @@ fn is_awaited(stage: Stage, said: Said) -> bool
 }
 
 // What is answered to something that has its place.
-fn reply_of(ours: Limits, said: Said) -> Result<Reply, Refusal>
-    ensures { result ≡ reply_of_lem ours said }
+fn reply_of(mechanism: Mechanism, ours: Limits, said: Said) -> Result<Reply, Refusal>
+    ensures { result ≡ reply_of_lem mechanism ours said }
 {
     match said {
         Said::Start {
             major,
             minor,
-            plain,
-        } => start(major, minor, plain),
-        Said::Secure => Ok(Reply::SecureOk),
+            offers,
+        } => start(major, minor, mechanism.chosen(offers)),
+        Said::Secure => Ok(Reply::SecureOk(mechanism)),
         Said::Tune {
             channel_max,
             frame_max,
@@ -202,11 +204,12 @@ impl Refusal {
 
 impl Handshake {
     /// An opening in which nothing came yet.
-    pub fn new(limits: Limits) -> Handshake
-        ensures { result ≡ new_handshake limits }
+    pub fn new(mechanism: Mechanism, limits: Limits) -> Handshake
+        ensures { result ≡ new_handshake mechanism limits }
     {
         Handshake {
             stage: Stage::Start,
+            mechanism,
             limits,
         }
     }
@@ -225,7 +228,10 @@ impl Handshake {
                 self.limits = limits;
                 self.stage = Stage::Open;
             }
-            Ok(Reply::StartOk) => self.stage = Stage::Tune,
+            Ok(Reply::StartOk(mechanism)) => {
+                self.mechanism = mechanism;
+                self.stage = Stage::Tune;
+            }
             Ok(Reply::Nothing) => self.pass(said),
             Ok(_) => {}
             Err(_) => self.stage = Stage::Refused,
@@ -240,7 +246,7 @@ impl Handshake {
         if !is_awaited(self.stage, said) {
             return Err(Refusal::Unexpected);
         }
-        reply_of(self.limits, said)
+        reply_of(self.mechanism, self.limits, said)
     }
 
     // An open-ok opens, a heartbeat changes nothing.

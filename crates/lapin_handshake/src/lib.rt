@@ -5,14 +5,26 @@
 //! session is made. How a frame is laid out stands in `lapin_fields`.
 #![tactic(auto)]
 
+mod caller;
 mod clock;
+mod fault;
 mod handshake;
+mod laws;
+mod mechanism;
 mod said;
 mod saying;
 mod shaking;
+mod start;
+mod texts;
+mod words;
 
+pub use caller::{Caller, check_pairs};
 pub use clock::{Beat, Clock};
+pub use fault::Unsaid;
 pub use handshake::{Handshake, Limits, Refusal, Reply, Stage};
+pub use laws::{external_tells_nobody, said_locales_have_room, said_mechanisms_are_listed};
+pub use mechanism::{Mechanism, Offers};
 pub use said::{Said, read_said};
 pub use saying::{put_heartbeat, put_protocol_header, put_reply};
 pub use shaking::{Shaken, shake};
+pub use start::{Place, Start, properties_place, read_start};

@@ -3,19 +3,20 @@
 
 ghost use Rattle.std.specs.Prelude.{◌≡◌};
 ghost use Rattle.lapin_fields.specs.Reading.{Gives};
-ghost use Rattle.lapin_handshake.specs.Saying.{start_at, secure_at, tune_at, open_ok_at, close_at, blocked_at, said_at, frame_said_at, GivesSaid, lists_plain, is_plain, method_said};
+ghost use Rattle.lapin_handshake.specs.Saying.{start_at, secure_at, tune_at, open_ok_at, close_at, blocked_at, said_at, frame_said_at, GivesSaid, method_said};
 
+use crate::mechanism::{Offers, offered};
+use crate::start::take_fields;
 use lapin_fields::{Octets, ReadFault, take_around};
-use lapin_tokens::{Tokens, is_word};
 
 /// What a frame of the broker says.
 #[derive(Clone, Copy, Debug, PartialEq, Eq)]
 pub enum Said {
-    /// `connection.start`: the version of the protocol, and whether PLAIN is one of the broker's mechanisms.
+    /// `connection.start`: the version of the protocol, and which mechanisms the broker offers.
     Start {
         major: u8,
         minor: u8,
-        plain: bool,
+        offers: Offers,
     },
     /// `connection.secure`: a challenge.
     Secure,
@@ -39,39 +40,14 @@ pub enum Said {
     Heartbeat,
 }
 
-// Whether a word is the name of the mechanism.
-fn is_plain_word(word: &[u8]) -> bool
-    ensures { result ≡ is_plain word.now }
-{
-    is_word(word, b"PLAIN")
-}
-
-// Whether PLAIN is one of the words of a list.
-fn has_plain(list: &[u8]) -> bool
-    ensures { result ≡ lists_plain list.now }
-{
-    let mut words = Tokens::new(list);
-    while let Some(word) = words.next() {
-        if is_plain_word(word) {
-            return true;
-        }
-    }
-    false
-}
-
 fn take_start(octets: &mut Octets) -> Result<Said, ReadFault>
     ensures { Gives result octets.new (start_at octets.old) }
 {
-    let major = octets.octet()?;
-    let minor = octets.octet()?;
-    let _properties = octets.counted()?;
-    let mechanisms = octets.counted()?;
-    let _locales = octets.counted()?;
-    let plain = has_plain(mechanisms);
+    let start = take_fields(octets)?;
     Ok(Said::Start {
-        major,
-        minor,
-        plain,
+        major: start.major,
+        minor: start.minor,
+        offers: offered(start.mechanisms),
     })
 }
 

@@ -3,43 +3,38 @@
 ghost use Rattle.std.specs.Prelude.{◌≡◌, ◌++◌, ◌≤◌, length, OnOk, ⊤};
 ghost use Rattle.lapin_fields.specs.Around.{around};
 ghost use Rattle.lapin_fields.specs.Fits.{StringFits, Refused};
-ghost use Rattle.lapin_fields.specs.Fields.{counted};
-ghost use Rattle.lapin_handshake.specs.Replies.{client_properties, protocol_header, heartbeat, start_ok_fields, secure_ok_fields, tune_ok_fields, open_fields, start_end, reply_bytes, short_text, plain_response, ReplyFits};
+ghost use Rattle.lapin_handshake.specs.Callers.{who_of};
+ghost use Rattle.lapin_handshake.specs.Mechanisms.{response_of};
+ghost use Rattle.lapin_handshake.specs.Replies.{protocol_header, heartbeat, start_ok_fields, secure_ok_fields, tune_ok_fields, open_fields, start_end, reply_bytes, ReplyFits};
 
+use crate::caller::{Caller, put_client};
 use crate::handshake::{Limits, Reply};
+use crate::mechanism::{Mechanism, put_response};
+use crate::texts::put_short_text;
 use lapin_fields::{WriteFault, put_around, put_counted, put_long, put_octet, put_short};
 use std::alloc::Global;
 
-/// What this side tells of itself: what it can do, and its name.
-pub const PROPERTIES: [u8; 185] =
-    *b"\x0ccapabilitiesF\x00\x00\x00\x8c\x1cauthentication_failure_closet\x01\x0abasic.nackt\x01\x12connection.blockedt\x01\x16consumer_cancel_notifyt\x01\x1aexchange_exchange_bindingst\x01\x12publisher_confirmst\x01\x07productS\x00\x00\x00\x0elapin channels";
-
 /// Adds the octets that come before all frames.
+///
+/// # Errors
+/// `NoMemory` alone.
 pub fn put_protocol_header(out: &mut Vec<u8>) -> Result<(), WriteFault>
-    ensures { OnOk result (out.new.items ≡ out.old.items ++ protocol_header) }
+    ensures bytes { OnOk result (out.new.items ≡ out.old.items ++ protocol_header) }
+    ensures refused { Refused result ⊤ }
 {
     out.extend_from_slice(&[65, 77, 81, 80, 0, 0, 9, 1])?;
     Ok(())
 }
 
 /// Adds a heartbeat.
+///
+/// # Errors
+/// `NoMemory` alone.
 pub fn put_heartbeat(out: &mut Vec<u8>) -> Result<(), WriteFault>
-    ensures { OnOk result (out.new.items ≡ out.old.items ++ heartbeat) }
+    ensures bytes { OnOk result (out.new.items ≡ out.old.items ++ heartbeat) }
+    ensures refused { Refused result ⊤ }
 {
     put_around(out, 8, 0, &[])
-}
-
-// Adds a short text behind its length.
-fn put_short_text(out: &mut Vec<u8>, bytes: &[u8]) -> Result<(), WriteFault>
-    ensures bytes { OnOk result ((out.new.items ≡ out.old.items ++ short_text bytes.now) × (length bytes.now ≤ 255)) }
-    ensures refused { Refused result (length bytes.now ≤ 255) }
-{
-    let Ok(count) = u8::try_from(bytes.len()) else {
-        return Err(WriteFault::TooLong);
-    };
-    put_octet(out, count)?;
-    out.extend_from_slice(bytes)?;
-    Ok(())
 }
 
 // Adds the frame of a method of channel 0.
@@ -50,68 +45,56 @@ fn put_method(out: &mut Vec<u8>, fields: &[u8]) -> Result<(), WriteFault>
     put_around(out, 1, 0, fields)
 }
 
-// The response of PLAIN: the user and the password, each behind a 0.
-#[tactic(auto, unfolding(crate::specs::Replies::plain_response))]
-fn put_response(out: &mut Vec<u8>, user: &[u8], password: &[u8]) -> Result<(), WriteFault>
-    ensures bytes { OnOk result (out.new.items ≡ out.old.items ++ plain_response user.now password.now) }
-    ensures refused { Refused result ⊤ }
-{
-    out.push(0)?;
-    out.extend_from_slice(user)?;
-    out.push(0)?;
-    out.extend_from_slice(password)?;
-    Ok(())
-}
-
-// What this side tells of itself.
-#[tactic(auto, unfolding(crate::specs::Replies::client_properties))]
-fn put_client(out: &mut Vec<u8>) -> Result<(), WriteFault>
-    ensures bytes { OnOk result (out.new.items ≡ out.old.items ++ counted client_properties) }
-    ensures refused { Refused result ⊤ }
-{
-    put_counted(out, &PROPERTIES)
-}
-
 #[tactic(auto, unfolding(crate::specs::Replies::start_ok_fields))]
 fn put_start_ok(
     alloc: Global,
     out: &mut Vec<u8>,
-    user: &[u8],
-    password: &[u8],
+    caller: &Caller,
+    locale: &[u8],
+    mechanism: Mechanism,
 ) -> Result<(), WriteFault>
-    ensures bytes { OnOk result (out.new.items ≡ out.old.items ++ start_ok_fields user.now password.now) }
-    ensures refused { Refused result (StringFits (start_ok_fields user.now password.now)) }
+    ensures bytes { OnOk result (out.new.items ≡ out.old.items ++ start_ok_fields (who_of caller.now) locale.now mechanism) }
+    ensures refused { Refused result (StringFits (start_ok_fields (who_of caller.now) locale.now mechanism) × (length locale.now ≤ 255)) }
 {
-    let mut response = Vec::new(alloc);
-    put_response(&mut response, user, password)?;
+    let mut client = Vec::new(alloc);
+    put_client(alloc, &mut client, caller.pairs)?;
     put_short(out, 10)?;
     put_short(out, 11)?;
-    put_client(out)?;
-    put_start_end(out, &response)
+    put_counted(out, &client)?;
+    put_start_end(alloc, out, mechanism, caller.user, caller.password, locale)
 }
 
 // The mechanism, its response and the locale.
 #[tactic(auto, unfolding(crate::specs::Replies::start_end))]
-fn put_start_end(out: &mut Vec<u8>, response: &[u8]) -> Result<(), WriteFault>
-    ensures bytes { OnOk result (out.new.items ≡ out.old.items ++ start_end response.now) }
-    ensures refused { Refused result (StringFits (start_end response.now)) }
+fn put_start_end(
+    alloc: Global,
+    out: &mut Vec<u8>,
+    mechanism: Mechanism,
+    user: &[u8],
+    password: &[u8],
+    locale: &[u8],
+) -> Result<(), WriteFault>
+    ensures bytes { OnOk result (out.new.items ≡ out.old.items ++ start_end mechanism user.now password.now locale.now) }
+    ensures refused { Refused result (StringFits (start_end mechanism user.now password.now locale.now) × (length locale.now ≤ 255)) }
 {
-    put_short_text(out, b"PLAIN")?;
-    put_counted(out, response)?;
-    put_short_text(out, b"en_US")
+    let mut response = Vec::new(alloc);
+    put_response(&mut response, mechanism, user, password)?;
+    put_short_text(out, mechanism.word())?;
+    put_counted(out, &response)?;
+    put_short_text(out, locale)
 }
 
 fn put_secure_ok(
     alloc: Global,
     out: &mut Vec<u8>,
-    user: &[u8],
-    password: &[u8],
+    caller: &Caller,
+    mechanism: Mechanism,
 ) -> Result<(), WriteFault>
-    ensures bytes { OnOk result (out.new.items ≡ out.old.items ++ secure_ok_fields user.now password.now) }
-    ensures refused { Refused result (StringFits (plain_response user.now password.now)) }
+    ensures bytes { OnOk result (out.new.items ≡ out.old.items ++ secure_ok_fields (who_of caller.now) mechanism) }
+    ensures refused { Refused result (StringFits (response_of mechanism caller.now.user.now caller.now.password.now)) }
 {
     let mut response = Vec::new(alloc);
-    put_response(&mut response, user, password)?;
+    put_response(&mut response, mechanism, caller.user, caller.password)?;
     put_short(out, 10)?;
     put_short(out, 21)?;
     put_counted(out, &response)
@@ -162,31 +145,31 @@ fn put_tuned(
 /// Adds the frames of a reply. After a fault a part of them may stand there.
 ///
 /// # Errors
-/// `TooLong` only where the name of the virtual host has more than 255 bytes, or a response more than a frame has room for; `NoMemory`.
+/// `TooLong` only where the name of the virtual host or the locale has more than 255 bytes, or what is told of this side more than a frame
+/// has room for; `NoMemory`.
 pub fn put_reply(
     alloc: Global,
     out: &mut Vec<u8>,
     reply: Reply,
-    user: &[u8],
-    password: &[u8],
-    vhost: &[u8],
+    caller: &Caller,
+    locale: &[u8],
 ) -> Result<(), WriteFault>
-    ensures bytes { OnOk result (out.new.items ≡ out.old.items ++ reply_bytes user.now password.now vhost.now reply) }
-    ensures refused { Refused result (ReplyFits user.now password.now vhost.now reply) }
+    ensures bytes { OnOk result (out.new.items ≡ out.old.items ++ reply_bytes (who_of caller.now) locale.now reply) }
+    ensures refused { Refused result (ReplyFits (who_of caller.now) locale.now reply) }
 {
     match reply {
         Reply::Nothing => Ok(()),
-        Reply::StartOk => {
+        Reply::StartOk(mechanism) => {
             let mut fields = Vec::new(alloc);
-            put_start_ok(alloc, &mut fields, user, password)?;
+            put_start_ok(alloc, &mut fields, caller, locale, mechanism)?;
             put_method(out, &fields)
         }
-        Reply::SecureOk => {
+        Reply::SecureOk(mechanism) => {
             let mut fields = Vec::new(alloc);
-            put_secure_ok(alloc, &mut fields, user, password)?;
+            put_secure_ok(alloc, &mut fields, caller, mechanism)?;
             put_method(out, &fields)
         }
-        Reply::Open(limits) => put_tuned(alloc, out, limits, vhost),
+        Reply::Open(limits) => put_tuned(alloc, out, limits, caller.vhost),
         Reply::CloseOk => put_method(out, &[0, 10, 0, 51]),
     }
 }

@@ -1,15 +1,19 @@
 //! An opening by its bytes: what stands at the head of the broker's bytes is read, and answered.
 
-ghost use Rattle.std.specs.Prelude.{◌≡◌, IfOk, IfErr};
-ghost use Rattle.lapin_handshake.specs.Shaking.{IsShaken, IsAnswered, Unshaken, Unanswered, refused};
+ghost use Rattle.std.specs.Prelude.{◌≡◌, IfOk, IfErr, OnOk};
+ghost use Rattle.lapin_handshake.specs.Callers.{who_of, AreTellable};
+ghost use Rattle.lapin_handshake.specs.Shaking.{IsShaken, IsAnswered, Unshaken, Unanswered, refused, too_long};
 
+use crate::caller::{Caller, check_pairs};
+use crate::fault::Unsaid;
 use crate::handshake::{Handshake, Refusal, Reply, Stage};
 use crate::said::{Said, read_said};
 use crate::saying::put_reply;
-use lapin_fields::{ReadFault, WriteFault, wanted};
+use crate::start::said_locale;
+use lapin_fields::{ReadFault, wanted};
 use std::alloc::Global;
 
-/// The longest frame of an opening that is taken.
+/// The most bytes of a frame of an opening that is taken, behind its size.
 const LONGEST: usize = 131072;
 
 /// What became of bytes of the broker.
@@ -23,35 +27,50 @@ pub enum Shaken {
     Refused(Refusal),
 }
 
-/// Takes the frame at the head of the bytes of the broker, if it is there, and adds what is answered to it.
+/// Takes the frame at the head of the bytes of the broker, if it is there, and adds what is answered to it. The caller's pairs are looked at
+/// first, also where there are no bytes yet. A frame that is too long is refused once its size is there, whether more of it came or not.
 ///
 /// # Errors
-/// `TooLong` only where the reply has no room: the name of the virtual host has more than 255 bytes, or the user and the password more than
-/// a frame; `NoMemory`. After either the opening doesn't go on.
+/// `NotPairs` exactly where the caller's pairs can't be told; `TooLong` only where the reply has no room: the name of the virtual host has
+/// more than 255 bytes, or what is told of this side more than a frame; `NoMemory`. After any of them the opening doesn't go on.
+#[tactic(auto, using(crate::proofs::Faults::untold, crate::proofs::Faults::unshaken, crate::proofs::Faults::shaken))]
 pub fn shake(
     alloc: Global,
     handshake: &mut Handshake,
     bytes: &[u8],
-    user: &[u8],
-    password: &[u8],
-    vhost: &[u8],
+    caller: &Caller,
     out: &mut Vec<u8>,
-) -> Result<Shaken, WriteFault>
-    ensures told { IfOk result (λ shaken. IsShaken shaken bytes.now user.now password.now vhost.now handshake.old handshake.new out.old.items out.new.items) }
-    ensures failed { IfErr result (λ fault. Unshaken fault bytes.now user.now password.now vhost.now handshake.old) }
+) -> Result<Shaken, Unsaid>
+    ensures told { IfOk result (λ shaken. IsShaken shaken bytes.now (who_of caller.now) handshake.old handshake.new out.old.items out.new.items) }
+    ensures pairs { OnOk result (AreTellable caller.now.pairs.now) }
+    ensures failed { IfErr result (λ fault. Unshaken fault bytes.now (who_of caller.now) handshake.old) }
 {
-    let more = wanted(bytes);
-    if more > LONGEST {
+    check_pairs(alloc, caller.pairs)?;
+    if is_too_long(bytes) {
         return Ok(refuse(handshake, Refusal::Malformed));
     }
-    if more > 0 {
+    if wanted(bytes) > 0 {
         return Ok(Shaken::Part);
     }
+    let Ok(locale) = said_locale(bytes) else {
+        return Err(Unsaid::NoMemory);
+    };
     match read_said(bytes) {
-        Ok(said) => answer(alloc, handshake, said, user, password, vhost, out),
+        Ok(said) => {
+            let shaken = answer(alloc, handshake, said, caller, locale, out)?;
+            Ok(shaken)
+        }
         Err(ReadFault::Malformed) => Ok(refuse(handshake, Refusal::Malformed)),
-        Err(ReadFault::NoMemory) => Err(WriteFault::NoMemory),
+        Err(ReadFault::NoMemory) => Err(Unsaid::NoMemory),
     }
+}
+
+// Whether the frame at the head of the bytes is longer than one of an opening may be: by its size alone, however much of it is there.
+fn is_too_long(bytes: &[u8]) -> bool
+    ensures { result ≡ too_long bytes.now }
+{
+    let head = if bytes.len() < 7 { bytes } else { &bytes[..7] };
+    wanted(head) > LONGEST
 }
 
 // The connection isn't opened.
@@ -69,21 +88,20 @@ fn answer(
     alloc: Global,
     handshake: &mut Handshake,
     said: Said,
-    user: &[u8],
-    password: &[u8],
-    vhost: &[u8],
+    caller: &Caller,
+    locale: &[u8],
     out: &mut Vec<u8>,
-) -> Result<Shaken, WriteFault>
-    ensures told { IfOk result (λ shaken. IsAnswered shaken said user.now password.now vhost.now handshake.old handshake.new out.old.items out.new.items) }
-    ensures failed { IfErr result (λ fault. Unanswered fault said user.now password.now vhost.now handshake.old) }
+) -> Result<Shaken, Unsaid>
+    ensures told { IfOk result (λ shaken. IsAnswered shaken said (who_of caller.now) locale.now handshake.old handshake.new out.old.items out.new.items) }
+    ensures failed { IfErr result (λ fault. Unanswered fault said (who_of caller.now) locale.now handshake.old) }
 {
     match handshake.hear(said) {
         Ok(reply) => {
-            put_reply(alloc, out, reply, user, password, vhost)?;
+            put_reply(alloc, out, reply, caller, locale)?;
             Ok(Shaken::Read)
         }
         Err(Refusal::Closed(code)) => {
-            put_reply(alloc, out, Reply::CloseOk, user, password, vhost)?;
+            put_reply(alloc, out, Reply::CloseOk, caller, locale)?;
             Ok(Shaken::Refused(Refusal::Closed(code)))
         }
         Err(refusal) => Ok(Shaken::Refused(refusal)),
