@@ -57,7 +57,6 @@ notes_stray f b is = notes_none f b b (stray_says_none f b.session is) refl
 pub noted_none : (r : Status) (f : Frame) (b d : Client) → close_said f ≡ None → Hears r f b d → NotesHeard r f b d
 noted_none status.Done f b d said h = (h.0, h.1, h.2, notes_none f b d said (ap (λ (t : Table Close). t.entries) h.3))
 noted_none status.Refused f b d said h = (h.0, h.1, h.2, notes_none f b d said (ap (λ (t : Table Close). t.entries) h.3))
-noted_none status.Untold f b d said h = (h.0, h.1, h.2, notes_none f b d said (ap (λ (t : Table Close). t.entries) h.3))
 noted_none status.NotInGrammar f b d said h = h
 noted_none status.NoMemory f b d said h = h
 noted_none status.Ended f b d said h = h
@@ -77,7 +76,6 @@ pub noted_some : (r : Status) (f : Frame) (ch : ℕ) (k : Close) (b q : Client) 
     x.entries ≡ with_channel ch k q.closes.entries → NotesHeard r f b (record q { closes = x })
 noted_some status.Done f ch k b q x not end said h put = (h.0, h.1, h.2, notes_some f ch k b q.closes.entries x.entries said (ap (λ (t : Table Close). t.entries) h.3) put)
 noted_some status.Refused f ch k b q x not end said h put = (h.0, h.1, h.2, notes_some f ch k b q.closes.entries x.entries said (ap (λ (t : Table Close). t.entries) h.3) put)
-noted_some status.Untold f ch k b q x not end said h put = (h.0, h.1, h.2, notes_some f ch k b q.closes.entries x.entries said (ap (λ (t : Table Close). t.entries) h.3) put)
 noted_some status.Kept f ch k b q x not end said h put = absurd (not refl)
 noted_some status.Ended f ch k b q x not end said h put = absurd (end refl)
 noted_some status.NotInGrammar f ch k b q x not end said h put = absurd h
@@ -92,7 +90,6 @@ noted_some status.Gone f ch k b q x not end said h put = absurd h
 pub same_table : (r : Status) (f : Frame) (b q : Client) → (r ≡ status.Kept → ⊥) → (r ≡ status.Ended → ⊥) → Hears r f b q → q.closes ≡ b.closes
 same_table status.Done f b q not end h = h.3
 same_table status.Refused f b q not end h = h.3
-same_table status.Untold f b q not end h = h.3
 same_table status.Kept f b q not end h = absurd (not refl)
 same_table status.Ended f b q not end h = absurd (end refl)
 same_table status.NotInGrammar f b q not end h = absurd h
@@ -110,9 +107,8 @@ notes_reserved f b d es same n = λ c. n c ∙ ap (λ (l : List (ℕ × Close)).
 pub noted_reserved : (r : Status) (f : Frame) (b d : Client) (y : Table Close) → y.entries ≡ b.closes.entries → NotesHeard r f (record b { closes = y }) d → NotesHeard r f b d
 noted_reserved status.Done f b d y same h = (h.0, h.1, h.2, notes_reserved f b d y.entries same h.3)
 noted_reserved status.Refused f b d y same h = (h.0, h.1, h.2, notes_reserved f b d y.entries same h.3)
-noted_reserved status.Untold f b d y same h = (h.0, h.1, h.2, notes_reserved f b d y.entries same h.3)
-noted_reserved status.Kept f b d y same h = (h.0, (h.1.0, h.1.1, h.1.2, h.1.3, h.1.4 ∙ same))
-noted_reserved status.Ended f b d y same h = ((h.0.0, (h.0.1.0, h.0.1.1, h.0.1.2, h.0.1.3, h.0.1.4 ∙ same)), h.1)
+noted_reserved status.Kept f b d y same h = (h.0, (h.1.0, h.1.1, h.1.2, h.1.3, h.1.4 ∙ same, h.1.5, h.1.6))
+noted_reserved status.Ended f b d y same h = ((h.0.0, (h.0.1.0, h.0.1.1, h.0.1.2, h.0.1.3, h.0.1.4 ∙ same, h.0.1.5, h.0.1.6)), h.1)
 noted_reserved status.NotInGrammar f b d y same h = h
 noted_reserved status.NoMemory f b d y same h = h
 noted_reserved status.Malformed f b d y same h = h

@@ -7,7 +7,7 @@ use Rattle.lapin_types.specs.declared.record.Record.TheVariants as record_
 use Rattle.lapin_machine.specs.declared.channel.Heard.{Heard}
 use Rattle.lapin_machine.specs.declared.channel.Heard.TheVariants as heard
 use Rattle.lapin_machine.specs.Told.{HeardTold, WasHeard}
-use Rattle.lapin_client.specs.Showing.{is_refusal}
+use Rattle.lapin_client.specs.Refusals.{is_refusal}
 
 pub did : (e : Error) (p q : Type 0) → WasHeard (Err e) p q → is_refusal e ≡ true → p
 did error.NoMemory p q h is = grind (is, arith)

@@ -1,11 +1,16 @@
+pub mod CameBack
 pub mod Closing
+pub mod Copying
 pub mod Heard
 pub mod Idle
-pub mod Own
+pub mod Lists
 pub mod Parts
+pub mod Pending
+pub mod Plain
 pub mod Refused
 pub mod Requests
 pub mod Room
 pub mod Running
+pub mod Tags
 pub mod Taken
 pub mod Taking

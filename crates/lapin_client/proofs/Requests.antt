@@ -52,7 +52,7 @@ pub hands_same : (n : ℕ) (flow : Bool) (c b d : Client) → HandsOut n flow c 
 hands_same n flow c b d h w = (w.0 ∙ h.0, (w.1 ∙ h.1.0, h.1.1, subst (λ (m : ℕ). m + n ≡ c.left) (sym w.2) h.1.2, h.1.3, w.3 ∙ h.1.4, h.1.5))
 
 pub same_else : (c b d : Client) → SameElse c b → SameElse b d → SameElse c d
-same_else c b d x y = (y.0 ∙ x.0, y.1 ∙ x.1, y.2 ∙ x.2, y.3 ∙ x.3, y.4 ∙ x.4)
+same_else c b d x y = (y.0 ∙ x.0, y.1 ∙ x.1, y.2 ∙ x.2, y.3 ∙ x.3, y.4 ∙ x.4, y.5 ∙ x.5, y.6 ∙ x.6)
 
 -- one more request was wanted
 pub wanted_next : (enough n : ℕ) (flow : Bool) (c b : Client) → HandsOut n flow c b → AllWanted enough n flow c → length b.leaving.items < enough → AllWanted enough (suc n) flow c
@@ -104,7 +104,6 @@ held_written status.Closed l c p d held ses leav lef fm same h = absurd h
 held_written status.Pending l c p d held ses leav lef fm same h = absurd h
 held_written status.Gone l c p d held ses leav lef fm same h = absurd h
 held_written status.Kept l c p d held ses leav lef fm same h = absurd h
-held_written status.Untold l c p d held ses leav lef fm same h = absurd h
 
 -- a frame that could not be written
 pub write_cause : (e : WriteFault) (f : Frame) (most : ℕ) → RefusedWithin (Err e) (FrameFits f) (most < length (bytes_of f)) → (e ≡ faults.NoMemory → ⊥) → CantLeave (record_.Frame f) most
@@ -128,7 +127,6 @@ writes_from status.Closed l c p d ses leav lef fm same h = h
 writes_from status.Pending l c p d ses leav lef fm same h = h
 writes_from status.Gone l c p d ses leav lef fm same h = h
 writes_from status.Kept l c p d ses leav lef fm same h = h
-writes_from status.Untold l c p d ses leav lef fm same h = h
 
 -- ---- a request
 
@@ -172,7 +170,6 @@ steps_lost status.Closed l flow c p d told ses leav lef fm same not h = absurd h
 steps_lost status.Pending l flow c p d told ses leav lef fm same not h = absurd h
 steps_lost status.Gone l flow c p d told ses leav lef fm same not h = absurd h
 steps_lost status.Kept l flow c p d told ses leav lef fm same not h = absurd h
-steps_lost status.Untold l flow c p d told ses leav lef fm same not h = absurd h
 
 wants_after : (n : ℕ) (flow : Bool) (c b d : Client) → HandsOut n flow c b → Waits b d ⊎ Holds flow b d → Stops status.NoMemory flow c d
 wants_after n flow c b d h (inl w) = inl (inr (n, hands_same n flow c b d h w))
@@ -190,7 +187,6 @@ stops_after status.Closed n flow c b d h same k = absurd k
 stops_after status.Pending n flow c b d h same k = absurd k
 stops_after status.Gone n flow c b d h same k = absurd k
 stops_after status.Kept n flow c b d h same k = absurd k
-stops_after status.Untold n flow c b d h same k = absurd k
 
 pub finishes_of : (s : Status) (c d : Client) → Stops s false c d × SameElse c d → Finishes s c d
 finishes_of status.Done c d h = absurd h.0
@@ -204,7 +200,6 @@ finishes_of status.Closed c d h = h
 finishes_of status.Pending c d h = h
 finishes_of status.Gone c d h = h
 finishes_of status.Kept c d h = h
-finishes_of status.Untold c d h = h
 
 pub pulls_of : (s : Status) (enough : ℕ) (flow : Bool) (c d : Client) → Stops s flow c d × SameElse c d → Pulls s enough flow c d
 pulls_of status.Done enough flow c d h = absurd h.0
@@ -218,7 +213,6 @@ pulls_of status.Closed enough flow c d h = h
 pulls_of status.Pending enough flow c d h = h
 pulls_of status.Gone enough flow c d h = h
 pulls_of status.Kept enough flow c d h = h
-pulls_of status.Untold enough flow c d h = h
 
 held_stops : (s : Status) (flow : Bool) (c d : Client) → (s ≡ status.Done → ⊥) → WritesHeld s c d → Stops s flow c d × SameElse c d
 held_stops status.Done flow c d not h = absurd (not refl)
@@ -232,7 +226,6 @@ held_stops status.Closed flow c d not h = absurd h
 held_stops status.Pending flow c d not h = absurd h
 held_stops status.Gone flow c d not h = absurd h
 held_stops status.Kept flow c d not h = absurd h
-held_stops status.Untold flow c d not h = absurd h
 
 pub finishes_held : (s : Status) (c d : Client) → (s ≡ status.Done → ⊥) → WritesHeld s c d → Finishes s c d
 finishes_held s c d not h = finishes_of s c d (held_stops s false c d not h)
@@ -284,7 +277,6 @@ stops_join status.Closed flow c b d h same k = absurd k
 stops_join status.Pending flow c b d h same k = absurd k
 stops_join status.Gone flow c b d h same k = absurd k
 stops_join status.Kept flow c b d h same k = absurd k
-stops_join status.Untold flow c b d h same k = absurd k
 
 pub finishes_join : (s : Status) (c b d : Client) → WritesHeld status.Done c b → Finishes s b d → Finishes s c d
 finishes_join status.Done c b d h ((n, k, idle), same) =
@@ -299,7 +291,6 @@ finishes_join status.Closed c b d h k = (stops_join status.Closed false c b d h.
 finishes_join status.Pending c b d h k = (stops_join status.Pending false c b d h.0 h.1 k.0, same_else c b d h.1 k.1)
 finishes_join status.Gone c b d h k = (stops_join status.Gone false c b d h.0 h.1 k.0, same_else c b d h.1 k.1)
 finishes_join status.Kept c b d h k = (stops_join status.Kept false c b d h.0 h.1 k.0, same_else c b d h.1 k.1)
-finishes_join status.Untold c b d h k = (stops_join status.Untold false c b d h.0 h.1 k.0, same_else c b d h.1 k.1)
 
 pub pulls_join : (s : Status) (enough : ℕ) (flow : Bool) (c b d : Client) → WritesHeld status.Done c b → Pulls s enough flow b d → Pulls s enough flow c d
 pulls_join status.Done enough flow c b d h ((n, k, all, suffices), same) =
@@ -314,7 +305,6 @@ pulls_join status.Closed enough flow c b d h k = (stops_join status.Closed flow 
 pulls_join status.Pending enough flow c b d h k = (stops_join status.Pending flow c b d h.0 h.1 k.0, same_else c b d h.1 k.1)
 pulls_join status.Gone enough flow c b d h k = (stops_join status.Gone flow c b d h.0 h.1 k.0, same_else c b d h.1 k.1)
 pulls_join status.Kept enough flow c b d h k = (stops_join status.Kept flow c b d h.0 h.1 k.0, same_else c b d h.1 k.1)
-pulls_join status.Untold enough flow c b d h k = (stops_join status.Untold flow c b d h.0 h.1 k.0, same_else c b d h.1 k.1)
 
 -- ---- both stretches
 
@@ -330,7 +320,6 @@ sends_pulled status.Closed flow enough c d not p = (inl p.0, p.1)
 sends_pulled status.Pending flow enough c d not p = (inl p.0, p.1)
 sends_pulled status.Gone flow enough c d not p = (inl p.0, p.1)
 sends_pulled status.Kept flow enough c d not p = (inl p.0, p.1)
-sends_pulled status.Untold flow enough c d not p = (inl p.0, p.1)
 
 pub sends_after : (r : Status) (flow : Bool) (enough : ℕ) (c b d : Client) → Pulls status.Done enough flow c b → Finishes r b d → Sends r flow enough c d
 sends_after status.Done flow enough c b d p f = (b, (p, f))
@@ -344,4 +333,3 @@ sends_after status.Closed flow enough c b d p f = (inr (b, p, f.0), same_else c 
 sends_after status.Pending flow enough c b d p f = (inr (b, p, f.0), same_else c b d p.1 f.1)
 sends_after status.Gone flow enough c b d p f = (inr (b, p, f.0), same_else c b d p.1 f.1)
 sends_after status.Kept flow enough c b d p f = (inr (b, p, f.0), same_else c b d p.1 f.1)
-sends_after status.Untold flow enough c b d p f = (inr (b, p, f.0), same_else c b d p.1 f.1)

@@ -1,8 +1,7 @@
 -- The numbers that a client has for further steps.
-use Rattle.std.proofs.Common.{◌≡◌, ℕ, suc, ◌-◌, ◌<◌, ◌≤◌, ◌^◌, true, false, List, Option, Some, None, Err, sym, subst, arith}
+use Rattle.std.proofs.Common.{◌≡◌, ℕ, suc, ◌-◌, ◌<◌, ◌≤◌, ◌^◌, true, false, Option, Err, sym, subst, arith}
 use Rattle.lapin_client.specs.Clients.{HasRoomFor}
-use Rattle.lapin_client.specs.Showing.{is_refusal}
-use Rattle.lapin_lines.specs.Lines.{IsTaken}
+use Rattle.lapin_client.specs.Refusals.{is_refusal}
 use Rattle.lapin_machine.proofs.Counting.{numbers-next}
 use Rattle.lapin_machine.specs.Numbers.{HasNumbersFor}
 use Rattle.lapin_machine.specs.Told.{WasMade}
@@ -51,11 +50,6 @@ sound_two n f w v u e g sound one two =
 pub sound_same : (n m f g : ℕ) (w v : World) → m ≡ n → g ≡ f → v ≡ w → Sound n f w → Sound m g v
 sound_same n m f g w v en ef ew s =
     (λ some. subst (λ (x : World). HasRoomFor m x) (sym ew) (subst (λ (x : ℕ). HasRoomFor x w) (sym en) (s.0 (subst (λ (x : ℕ). 0 < x) en some))), subst (λ (x : ℕ). 4096 ≤ x) (sym ef) s.1)
-
--- a line that was met
-pub sound_line : (n f : ℕ) (w v : World) (o : Option Event) (old new : List ℕ) → Sound n f w → IsTaken o w v old new true → Sound (n - 1) f v
-sound_line n f w v (Some e) old new sound taken = sound_next n f w v e sound taken.1.0
-sound_line n f w v None old new sound taken = grind (taken.0, arith)
 
 new_numbers : (n m : ℕ) → n < 2 ^ 64 → HasNumbersFor n (new_world m)
 new_numbers n m fits = record { tickets = omega (fits, arith); confirms = omega (fits, arith); consumers = omega (fits, arith); ackers = omega (fits, arith) }

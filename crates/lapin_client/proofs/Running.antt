@@ -31,7 +31,6 @@ runs_to status.Closed n b l d not comes turns = (n, (l, (comes, turns)))
 runs_to status.Pending n b l d not comes turns = (n, (l, (comes, turns)))
 runs_to status.Gone n b l d not comes turns = (n, (l, (comes, turns)))
 runs_to status.Kept n b l d not comes turns = (n, (l, (comes, turns)))
-runs_to status.Untold n b l d not comes turns = (n, (l, (comes, turns)))
 
 -- octets for which there was room
 pub receives_ran : (r : Status) (bytes : List ℕ) (c b d : Client) → IsLonger bytes c b → Runs r b d → Receives r bytes c d
@@ -46,4 +45,3 @@ receives_ran status.Closed bytes c b d longer runs = (b, (longer, runs))
 receives_ran status.Pending bytes c b d longer runs = (b, (longer, runs))
 receives_ran status.Gone bytes c b d longer runs = (b, (longer, runs))
 receives_ran status.Kept bytes c b d longer runs = (b, (longer, runs))
-receives_ran status.Untold bytes c b d longer runs = (b, (longer, runs))

@@ -1,11 +1,12 @@
 -- What the broker says as it closes a channel, or the connection (AMQP 0-9-1, `channel.close` and `connection.close`).
 use Rattle.std.specs.Prelude.{◌≡◌, ◌==◌, ℕ, if◌then◌else◌, List, [], ◌∷◌, Option, Some, None, Result, Ok, Err}
+use Rattle.lapin_client.specs.declared.answers.Handed.TheVariants as handed
 use Rattle.lapin_client.specs.declared.client.Client.{Client}
 use Rattle.lapin_client.specs.declared.closes.Close.{Close}
 use Rattle.lapin_client.specs.declared.closes.CloseReason.{CloseReason}
 use Rattle.lapin_client.specs.declared.status.Status.{Status}
 use Rattle.lapin_client.specs.declared.status.Status.TheVariants as status
-use Rattle.lapin_client.specs.Clients.{SameBytes}
+use Rattle.lapin_client.specs.Clients.{SameBytes, SameTold}
 use Rattle.lapin_tables.specs.ByChannel.{at_channel}
 use Rattle.lapin_types.specs.Types.{Frame}
 use Rattle.lapin_types.specs.Types.frame
@@ -55,7 +56,7 @@ reason_of x = record { code = x.code; class_id = x.class_id; method_id = x.metho
 
 -- the last close is told: its numbers, and its text as the answer. Nothing else changes, and where there is none, or no memory, nothing does.
 abbrev pub TellsClose : Result CloseReason Status → ℕ → Client → Client → Type 0
-TellsClose (Ok r) c b d = ((x : Close) × (close_on c b ≡ Some x) × (r ≡ reason_of x) × (d.answer.items ≡ x.text)) × (d.session ≡ b.session) × (d.left ≡ b.left) × SameBytes b d
+TellsClose (Ok r) c b d = ((x : Close) × (close_on c b ≡ Some x) × (r ≡ reason_of x) × (d.answer.items ≡ x.text) × (d.handed ≡ handed.Nothing)) × (d.session ≡ b.session) × (d.left ≡ b.left) × SameBytes b d × (d.refused ≡ b.refused)
 TellsClose (Err status.Pending) c b d = (close_on c b ≡ None) × (d ≡ b)
-TellsClose (Err status.NoMemory) c b d = (d.answer.items ≡ b.answer.items) × (d.session ≡ b.session) × (d.left ≡ b.left) × SameBytes b d
+TellsClose (Err status.NoMemory) c b d = SameTold b d × (d.session ≡ b.session) × (d.left ≡ b.left) × SameBytes b d
 TellsClose (Err _) c b d = ⊥

@@ -1,7 +1,6 @@
 -- How many steps a call uses up.
 use Rattle.std.specs.Prelude.{◌≡◌, ◌+◌, ◌⊎◌, ℕ, Result, Ok, Err}
 use Rattle.lapin_client.specs.declared.client.Client.{Client}
-use Rattle.lapin_client.specs.declared.calls.Message.{Message}
 use Rattle.lapin_client.specs.declared.status.Status.{Status}
 use Rattle.lapin_client.specs.declared.status.Status.TheVariants as status
 
@@ -9,29 +8,29 @@ use Rattle.lapin_client.specs.declared.status.Status.TheVariants as status
 abbrev pub Uses : ℕ → Client → Client → Type 0
 Uses n c d = d.left + n ≡ c.left
 
--- a line uses one where it is done; one that isn't in the grammar none
-abbrev pub LineCounts : Status → Client → Client → Type 0
-LineCounts status.Done c d = d.left + 1 ≡ c.left
-LineCounts status.NotInGrammar c d = d.left ≡ c.left
-LineCounts _ c d = Unit {0}
+-- a call uses one; where it fails none
+abbrev pub CallCounts : Result ℕ Status → Client → Client → Type 0
+CallCounts (Ok n) c d = d.left + 1 ≡ c.left
+CallCounts (Err s) c d = d.left ≡ c.left
+
+-- what uses one step where it is done, and none else
+abbrev pub OneWhereDone : Status → Client → Client → Type 0
+OneWhereDone status.Done c d = d.left + 1 ≡ c.left
+OneWhereDone _ c d = d.left ≡ c.left
 
 -- a publish uses two; where it fails none
 abbrev pub PublishCounts : Result ℕ Status → Client → Client → Type 0
 PublishCounts (Ok n) c d = d.left + 2 ≡ c.left
 PublishCounts (Err s) c d = d.left ≡ c.left
 
--- one at most
-abbrev pub OneAtMost : Client → Client → Type 0
-OneAtMost c d = (d.left ≡ c.left) ⊎ (d.left + 1 ≡ c.left)
-
 -- a poll uses one; where there was no memory for a message the client ends
-abbrev pub PollCounts : Result Message Status → Client → Client → Type 0
+abbrev pub PollCounts : {A : Type 0} → Result A Status → Client → Client → Type 0
 PollCounts (Err status.NoMemory) c d = d.left ≡ 0
-PollCounts (Err status.Ended) c d = OneAtMost c d
+PollCounts (Err status.Ended) c d = d.left ≡ c.left
 PollCounts _ c d = d.left + 1 ≡ c.left
 
 -- a message that is shown uses none
-abbrev pub ShowCounts : Result Message Status → Client → Client → Type 0
+abbrev pub ShowCounts : {A : Type 0} → Result A Status → Client → Client → Type 0
 ShowCounts (Ok m) c d = d.left ≡ c.left
 ShowCounts (Err s) c d = d.left ≡ 0
 
@@ -43,10 +42,10 @@ OutcomeCounts code c d = ((code ≡ 0) × (d.left ≡ c.left)) ⊎ (d.left + 1 �
 abbrev pub SettleCounts : Status → Client → Client → Type 0
 SettleCounts status.Done c d = d.left + 2 ≡ c.left
 SettleCounts status.Refused c d = d.left + 1 ≡ c.left
-SettleCounts status.Untold c d = d.left + 1 ≡ c.left
 SettleCounts _ c d = d.left ≡ c.left
 
--- a confirm that is set aside uses one
-abbrev pub ForgetCounts : Status → Client → Client → Type 0
-ForgetCounts status.Done c d = d.left + 1 ≡ c.left
-ForgetCounts _ c d = d.left ≡ c.left
+-- what is unclaimed is told by one; where nothing was done none are used
+abbrev pub UnclaimedCounts : Result ℕ Status → Client → Client → Type 0
+UnclaimedCounts (Err status.NoMemory) c d = d.left ≡ c.left
+UnclaimedCounts (Err status.Ended) c d = d.left ≡ c.left
+UnclaimedCounts _ c d = d.left + 1 ≡ c.left

@@ -1,9 +1,16 @@
+pub mod Answers
+pub mod Asking
 pub mod Calls
 pub mod Clients
 pub mod Closes
 pub mod Counts
+pub mod Parcels
+pub mod Ready
 pub mod Receiving
+pub mod Refusals
+pub mod Replies
+pub mod Returns
 pub mod Sending
-pub mod Showing
+pub mod States
 pub mod Statuses
 pub mod Taken

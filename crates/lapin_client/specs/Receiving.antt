@@ -6,9 +6,9 @@ use Rattle.lapin_client.specs.declared.receiving.Head.{Head}
 use Rattle.lapin_client.specs.declared.receiving.Head.TheVariants as head
 use Rattle.lapin_client.specs.declared.status.Status.{Status}
 use Rattle.lapin_client.specs.declared.status.Status.TheVariants as status
-use Rattle.lapin_client.specs.Clients.{SameBytes}
+use Rattle.lapin_client.specs.Clients.{SameBytes, SameTold}
 use Rattle.lapin_client.specs.Closes.{Notes}
-use Rattle.lapin_client.specs.Showing.{ShowsError}
+use Rattle.lapin_client.specs.Refusals.{Keeps}
 use Rattle.lapin_client.specs.Sending.{AllFit, AllWithin, after_requests, bytes_handed, HeldFits, IsIdle, SameElse, Stops, Waits, to_leave}
 use Rattle.lapin_fields.specs.Around.{wanted_behind}
 use Rattle.lapin_frames.specs.FrameReading.{read_at}
@@ -71,6 +71,16 @@ abbrev pub notice : Bool → Said
 notice true = said.Blocked
 notice false = said.Unblocked
 
+-- the same of all that a frame says
+abbrev pub notice_in : Said → Option Bool
+notice_in said.Blocked = Some true
+notice_in said.Unblocked = Some false
+notice_in _ = None
+
+-- the frame at the head is no notice
+abbrev pub SaysNoNotice : List ℕ → Type 0
+SaysNoNotice bytes = (is : Bool) → frame_said_at bytes ≡ Some (notice is) → ⊥
+
 -- a frame of n octets stands whole at the head, that is none which the session hears, and it is a notice
 abbrev pub IsNotice : List ℕ → Bool → ℕ → Type 0
 IsNotice bytes is n = (wanted_behind bytes ≡ 0) × (read_at bytes ≡ None) × (frame_said_at bytes ≡ Some (notice is)) × (n ≡ length_at bytes)
@@ -89,7 +99,7 @@ TurnLeaves (Some f) b d = (m : ℕ) × IsIdle false (after_requests m false b.se
     × (d.left + (suc m + uses f (after_requests (suc m) false b.session)) ≡ b.left)
     × AllWithin b.frame_max (suc m) false b.session × AllFit (suc m) false b.session × (d.unsent ≡ None) × HeldFits b.frame_max b.unsent
 
--- of two clients all is the same but the session, the answer, the broker's last closes and the steps that are left
+-- of two clients all is the same but the session, what is told, the broker's last closes and the steps that are left
 abbrev pub SameHeard : Client → Client → Type 0
 SameHeard b d = (d.leaving.items ≡ b.leaving.items) × (d.came ≡ b.came) × (d.frame_max ≡ b.frame_max) × (d.blocked ≡ b.blocked) × (d.unsent ≡ b.unsent)
 
@@ -97,13 +107,9 @@ SameHeard b d = (d.leaving.items ≡ b.leaving.items) × (d.came ≡ b.came) × 
 abbrev pub IsHeard : Frame → World → Type 0
 IsHeard f w = (is_stray f w ≡ true) ⊎ ((told_by w (event.Receive f) ≡ record_.Received) ⊎ (told_by w (event.Receive f) ≡ record_.Passed))
 
--- the session refuses a frame, and the line of the refusal is the answer
-abbrev pub Refuses : Frame → World → Client → Type 0
-Refuses f w d = (e : Error) × (told_by w (event.Receive f) ≡ record_.Refused e) × ShowsError e d
-
--- the session refuses a frame
-abbrev pub IsRefused : Frame → World → Type 0
-IsRefused f w = (e : Error) × (told_by w (event.Receive f) ≡ record_.Refused e)
+-- the session refuses a frame, and the error is kept
+abbrev pub Refuses : Frame → World → Client → Client → Type 0
+Refuses f w b d = (e : Error) × (told_by w (event.Receive f) ≡ record_.Refused e) × Keeps e b d
 
 -- a frame was not taken: all is as it was
 abbrev pub NotHeard : Client → Client → Type 0
@@ -111,18 +117,16 @@ NotHeard b d = Waits b d × SameElse b d
 
 -- what becomes of a frame that the session hears
 abbrev pub Hears : Status → Frame → Client → Client → Type 0
-Hears status.Done f b d = IsHeard f b.session × (d.session ≡ next b.session (event.Receive f)) × SameHeard b d × (d.closes ≡ b.closes)
-Hears status.Refused f b d = Refuses f b.session d × (d.session ≡ next b.session (event.Receive f)) × SameHeard b d × (d.closes ≡ b.closes)
-Hears status.Untold f b d = IsRefused f b.session × (d.session ≡ next b.session (event.Receive f)) × SameHeard b d × (d.closes ≡ b.closes)
+Hears status.Done f b d = (IsHeard f b.session × SameTold b d) × (d.session ≡ next b.session (event.Receive f)) × SameHeard b d × (d.closes ≡ b.closes)
+Hears status.Refused f b d = Refuses f b.session b d × (d.session ≡ next b.session (event.Receive f)) × SameHeard b d × (d.closes ≡ b.closes)
 Hears status.Kept f b d = NotHeard b d
 Hears status.Ended f b d = NotHeard b d × (b.left ≡ 0)
 Hears r f b d = ⊥
 
 -- what becomes of it, and of the close that it says
 abbrev pub NotesHeard : Status → Frame → Client → Client → Type 0
-NotesHeard status.Done f b d = IsHeard f b.session × (d.session ≡ next b.session (event.Receive f)) × SameHeard b d × Notes (Some f) b d
-NotesHeard status.Refused f b d = Refuses f b.session d × (d.session ≡ next b.session (event.Receive f)) × SameHeard b d × Notes (Some f) b d
-NotesHeard status.Untold f b d = IsRefused f b.session × (d.session ≡ next b.session (event.Receive f)) × SameHeard b d × Notes (Some f) b d
+NotesHeard status.Done f b d = (IsHeard f b.session × SameTold b d) × (d.session ≡ next b.session (event.Receive f)) × SameHeard b d × Notes (Some f) b d
+NotesHeard status.Refused f b d = Refuses f b.session b d × (d.session ≡ next b.session (event.Receive f)) × SameHeard b d × Notes (Some f) b d
 NotesHeard status.Kept f b d = NotHeard b d
 NotesHeard status.Ended f b d = NotHeard b d × (b.left ≡ 0)
 NotesHeard r f b d = ⊥
@@ -131,7 +135,6 @@ NotesHeard r f b d = ⊥
 abbrev pub left_by : Status → ℕ → ℕ → ℕ → Type 0
 left_by status.Done n before after = after + n ≡ before
 left_by status.Refused n before after = after + n ≡ before
-left_by status.Untold n before after = after + n ≡ before
 left_by _ n before after = after ≡ before
 
 -- a frame that the session hears uses one step up
@@ -142,34 +145,29 @@ HearCounts r b d = left_by r 1 b.left d.left
 abbrev pub IdleCounts : Status → Frame → Client → Client → Type 0
 IdleCounts r f b d = left_by r (uses f b.session) b.left d.left
 
--- what becomes of a frame where nothing waits here that has begun
+-- what becomes of a frame where nothing waits here that has begun; one that is passed over is never refused
 abbrev pub TakesIdle : Status → Frame → Client → Client → Type 0
-TakesIdle status.Done f b d = IsHeard f b.session × (d.session ≡ heard f b.session) × SameHeard b d × Notes (Some f) b d
-TakesIdle status.Refused f b d = Refuses f b.session d × (d.session ≡ heard f b.session) × SameHeard b d × Notes (Some f) b d
-TakesIdle status.Untold f b d = IsRefused f b.session × (d.session ≡ heard f b.session) × SameHeard b d × Notes (Some f) b d
+TakesIdle status.Done f b d = (IsHeard f b.session × SameTold b d) × (d.session ≡ heard f b.session) × SameHeard b d × Notes (Some f) b d
+TakesIdle status.Refused f b d = ((is_stray f b.session ≡ false) × Refuses f b.session b d) × (d.session ≡ heard f b.session) × SameHeard b d × Notes (Some f) b d
 TakesIdle status.Kept f b d = NotHeard b d
 TakesIdle status.Ended f b d = NotHeard b d × (b.left ≡ 0)
 TakesIdle r f b d = ⊥
 
--- the session takes a frame once it is idle
-abbrev pub TurnHears : Option Frame → Client → Type 0
-TurnHears None b = Unit {0}
-TurnHears (Some f) b = (m : ℕ) × IsIdle false (after_requests m false b.session) × IsHeard f (after_requests (suc m) false b.session)
+-- the session takes a frame once it is idle; and what is told stays, also where there is none
+abbrev pub TurnHears : Option Frame → Client → Client → Type 0
+TurnHears None b d = SameTold b d
+TurnHears (Some f) b d = ((m : ℕ) × IsIdle false (after_requests m false b.session) × IsHeard f (after_requests (suc m) false b.session)) × SameTold b d
 
--- the session refuses a frame once it is idle
+-- the session refuses a frame once it is idle; it is none that is passed over
 abbrev pub TurnRefuses : Frame → Client → Client → Type 0
-TurnRefuses f b d = (m : ℕ) × IsIdle false (after_requests m false b.session) × Refuses f (after_requests (suc m) false b.session) d
-
--- the session refuses a frame once it is idle, and there was no memory for the line of the refusal
-abbrev pub TurnUntold : Frame → Client → Type 0
-TurnUntold f b = (m : ℕ) × IsIdle false (after_requests m false b.session) × IsRefused f (after_requests (suc m) false b.session)
+TurnRefuses f b d = (m : ℕ) × IsIdle false (after_requests m false b.session)
+    × ((is_stray f (after_requests (suc m) false b.session) ≡ false) × Refuses f (after_requests (suc m) false b.session) b d)
 
 -- What becomes of a frame that came. Where it isn't taken, what left before it has left: there was no memory, a frame of this side can't leave,
 -- or all steps are used up.
 abbrev pub Takes : Status → Frame → Client → Client → Type 0
-Takes status.Done f b d = TurnHears (Some f) b × TurnLeaves (Some f) b d × (d.came ≡ b.came) × (d.frame_max ≡ b.frame_max) × (d.blocked ≡ b.blocked) × Notes (Some f) b d
+Takes status.Done f b d = TurnHears (Some f) b d × TurnLeaves (Some f) b d × (d.came ≡ b.came) × (d.frame_max ≡ b.frame_max) × (d.blocked ≡ b.blocked) × Notes (Some f) b d
 Takes status.Refused f b d = TurnRefuses f b d × TurnLeaves (Some f) b d × (d.came ≡ b.came) × (d.frame_max ≡ b.frame_max) × (d.blocked ≡ b.blocked) × Notes (Some f) b d
-Takes status.Untold f b d = TurnUntold f b × TurnLeaves (Some f) b d × (d.came ≡ b.came) × (d.frame_max ≡ b.frame_max) × (d.blocked ≡ b.blocked) × Notes (Some f) b d
 Takes status.Kept f b d = Stops status.NoMemory false b d × SameElse b d
 Takes status.TooLong f b d = Stops status.TooLong false b d × SameElse b d
 Takes status.Ended f b d = Stops status.Ended false b d × SameElse b d
@@ -181,9 +179,16 @@ HeadIs head.Part bytes frame_max = (0 < wanted_behind bytes) × (length bytes < 
 HeadIs (head.Frame f n) bytes frame_max = read_at bytes ≡ Some (read.Frame f n)
 HeadIs (head.Passed n) bytes frame_max = read_at bytes ≡ Some (read.Heartbeat n)
 HeadIs head.TooLong bytes frame_max = frame_max < length_at bytes
-HeadIs head.Malformed bytes frame_max = (wanted_behind bytes ≡ 0) × (read_at bytes ≡ None)
+HeadIs head.Malformed bytes frame_max = (wanted_behind bytes ≡ 0) × (read_at bytes ≡ None) × SaysNoNotice bytes
 HeadIs (head.Blocked b n) bytes frame_max = IsNotice bytes b n
 HeadIs head.NoMemory bytes frame_max = Unit {0}
+
+-- what stands there, where it is none that the session hears and no heartbeat
+abbrev pub NoticeIs : Head → List ℕ → Type 0
+NoticeIs (head.Blocked b n) bytes = (frame_said_at bytes ≡ Some (notice b)) × (n ≡ length_at bytes)
+NoticeIs head.Malformed bytes = SaysNoNotice bytes
+NoticeIs head.NoMemory bytes = Unit {0}
+NoticeIs _ bytes = ⊥
 
 -- the head of what came is taken from it, what it leaves, and the close that it says
 abbrev pub IsTurnOf : Option Frame → Client → Client → Type 0
@@ -191,15 +196,14 @@ IsTurnOf o b d = (n : ℕ) × IsHead b.came o n b.blocked d.blocked × (d.came �
 
 -- it is taken, and not refused
 abbrev pub IsTurn : Client → Client → Type 0
-IsTurn b d = (o : Option Frame) × IsTurnOf o b d × TurnHears o b
+IsTurn b d = (o : Option Frame) × IsTurnOf o b d × TurnHears o b d
 
 -- what becomes of the head of what came; where it isn't taken it stays, with all behind it
 abbrev pub Turns : Status → Client → Client → Type 0
 Turns status.Done b d = IsTurn b d
 Turns status.Refused b d = (f : Frame) × IsTurnOf (Some f) b d × TurnRefuses f b d
-Turns status.Untold b d = (f : Frame) × IsTurnOf (Some f) b d × TurnUntold f b
 Turns status.Pending b d = (0 < wanted_behind b.came) × (length b.came < b.frame_max) × (d ≡ b)
-Turns status.Malformed b d = (wanted_behind b.came ≡ 0) × (read_at b.came ≡ None) × (d ≡ b)
+Turns status.Malformed b d = (wanted_behind b.came ≡ 0) × ((read_at b.came ≡ None) × SaysNoNotice b.came) × (d ≡ b)
 Turns status.TooLong b d = ((b.frame_max < length_at b.came) × (d ≡ b)) ⊎ (Stops status.TooLong false b d × SameElse b d)
 Turns status.Kept b d = Stops status.NoMemory false b d × SameElse b d
 Turns status.Ended b d = Stops status.Ended false b d × SameElse b d
@@ -217,7 +221,7 @@ Comes (suc n) c d = (b : Client) × Comes n c b × IsTurn b d
 -- what a client is once more came
 abbrev pub IsLonger : List ℕ → Client → Client → Type 0
 IsLonger bytes c b = (b.left ≡ c.left) × (b.came ≡ c.came ++ bytes) × (b.session ≡ c.session) × (b.leaving.items ≡ c.leaving.items) × (b.frame_max ≡ c.frame_max) × (b.blocked ≡ c.blocked)
-    × (b.answer.items ≡ c.answer.items) × (b.unsent ≡ c.unsent) × (b.closes.entries ≡ c.closes.entries)
+    × SameTold c b × (b.unsent ≡ c.unsent) × (b.closes.entries ≡ c.closes.entries)
 
 -- What a run over what came leaves: each frame that was whole was taken, in order, and what is kept is the beginning of one, shorter than a
 -- frame may be; where the status isn't Done the last of them has it.
@@ -228,5 +232,5 @@ Runs r b d = (n : ℕ) × ((e : Client) × (Comes n b e × Turns r e d))
 -- What octets of the broker leave: they stand behind those that came before, and then each frame that is whole was taken, in order. Where
 -- there was no memory for them, nothing came, and all is as it was.
 abbrev pub Receives : Status → List ℕ → Client → Client → Type 0
-Receives status.NoMemory bytes c d = (d.session ≡ c.session) × (d.left ≡ c.left) × (d.answer.items ≡ c.answer.items) × SameBytes c d
+Receives status.NoMemory bytes c d = (d.session ≡ c.session) × (d.left ≡ c.left) × SameTold c d × SameBytes c d
 Receives r bytes c d = (b : Client) × (IsLonger bytes c b × Runs r b d)

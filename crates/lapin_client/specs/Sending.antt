@@ -63,7 +63,7 @@ HeldFits most (Some l) = (length (bytes_of l.frame) ≤ most) × FrameFits l.fra
 
 -- of two clients all is the same but the session, the octets that are to be sent and the steps that are left
 abbrev pub SameElse : Client → Client → Type 0
-SameElse c d = (d.answer.items ≡ c.answer.items) × (d.came ≡ c.came) × (d.frame_max ≡ c.frame_max) × (d.blocked ≡ c.blocked) × (d.closes.entries ≡ c.closes.entries)
+SameElse c d = (d.answer.items ≡ c.answer.items) × (d.came ≡ c.came) × (d.frame_max ≡ c.frame_max) × (d.blocked ≡ c.blocked) × (d.closes.entries ≡ c.closes.entries) × (d.handed ≡ c.handed) × (d.refused ≡ c.refused)
 
 -- Frames were asked for n times, each of which used up one step, and the octets of those that left stand behind those that were to be sent;
 -- none is longer than a frame may be, each can be read back, and none is held.

@@ -15,4 +15,3 @@ code_of status.Closed = 7
 code_of status.Pending = 8
 code_of status.Gone = 9
 code_of status.Kept = 10
-code_of status.Untold = 11

@@ -6,6 +6,7 @@ ghost use Rattle.lapin_rules.specs.Words.{with_channel};
 ghost use Rattle.lapin_tables.specs.ByChannel.{at_channel, HasRoom};
 ghost use Rattle.lapin_types.specs.Types.frame;
 
+use crate::answers::Handed;
 use crate::client::Client;
 use crate::status::Status;
 use lapin_tables::ByChannel;
@@ -57,6 +58,7 @@ impl Client {
             return Err(Status::NoMemory);
         }
         self.answer.drain(..before);
+        self.handed = Handed::Nothing;
         Ok(CloseReason {
             code: close.code,
             class_id: close.class_id,

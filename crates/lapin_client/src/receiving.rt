@@ -1,11 +1,10 @@
 //! Bytes of the broker, in whatever pieces they come: each frame that is whole is handed to the session, once nothing of this side waits
 //! that has begun.
-ghost use Rattle.std.specs.Prelude.{◌≡◌, ◌≤◌, Some, IfSome};
-ghost use Rattle.lapin_handshake.specs.Saying.{frame_said_at};
+ghost use Rattle.std.specs.Prelude.{◌≡◌, ◌≤◌, Some};
 ghost use Rattle.lapin_client.specs.Clients.{IsSound};
 ghost use Rattle.lapin_client.specs.Closes.{close_said};
-ghost use Rattle.lapin_client.specs.Receiving.{Receives, Runs, Turns, TurnsBy, Takes, TakesIdle, IdleCounts, Hears, NotesHeard, HearCounts, HeadIs, notice, is_of_content as is_of_content_lem, begins_content as begins_content_lem, is_deaf as is_deaf_lem, is_stray as is_stray_lem, length_at};
-ghost use Rattle.lapin_client.specs.Showing.{is_refusal};
+ghost use Rattle.lapin_client.specs.Receiving.{Receives, Runs, Turns, TurnsBy, Takes, TakesIdle, IdleCounts, Hears, NotesHeard, HearCounts, HeadIs, NoticeIs, notice_in as notice_in_lem, is_of_content as is_of_content_lem, begins_content as begins_content_lem, is_deaf as is_deaf_lem, is_stray as is_stray_lem, length_at};
+ghost use Rattle.lapin_client.specs.Refusals.{is_refusal};
 ghost use Rattle.lapin_rules.specs.Drops.{frame_channel};
 ghost use Rattle.lapin_tables.specs.ByChannel.{HasRoom};
 
@@ -43,8 +42,7 @@ impl Client {
     /// came behind it is kept, and handed on by the next call.
     ///
     /// `NoMemory`: the bytes were not kept, and all is as it was: hand them in again. `Kept`: they were, and there was no memory for the frame
-    /// at the head of what came, which stays there: call again, with no bytes. `Untold`: the session refused a frame, and there was no memory
-    /// for the line of the refusal.
+    /// at the head of what came, which stays there: call again, with no bytes.
     pub fn receive(&mut self, alloc: Global, bytes: &[u8]) -> Status
         requires { IsSound self.old }
         ensures sound { IsSound self.new }
@@ -110,10 +108,6 @@ impl Client {
             Status::Refused => {
                 self.came.pass(length);
                 Status::Refused
-            }
-            Status::Untold => {
-                self.came.pass(length);
-                Status::Untold
             }
             status => status,
         }
@@ -232,7 +226,8 @@ impl Client {
             Err(error) => {
                 if refuses(error) {
                     self.left -= 1;
-                    return self.refuse_so(alloc, error);
+                    self.keep(error);
+                    return Status::Refused;
                 }
                 Status::Kept
             }
@@ -297,7 +292,7 @@ fn is_stray(session: &Session, frame: &Frame) -> bool
 }
 
 // What stands at the head of bytes, where no frame has more than so many.
-#[tactic(auto, using(crate::proofs::Parts::part_short))]
+#[tactic(auto, using(crate::proofs::Parts::part_short, crate::proofs::Parts::head_noticed))]
 fn head_of(alloc: Global, bytes: &[u8], frame_max: u32) -> Head
     requires { 4096 ≤ frame_max }
     ensures { HeadIs result bytes.now frame_max }
@@ -311,21 +306,33 @@ fn head_of(alloc: Global, bytes: &[u8], frame_max: u32) -> Head
     match read_frame(alloc, bytes) {
         Ok(Read::Frame(frame, length)) => Head::Frame(frame, length),
         Ok(Read::Heartbeat(length)) => Head::Passed(length),
-        Err(ReadFault::Malformed) => match notice_of(bytes) {
-            Some((blocked, length)) => Head::Blocked(blocked, length),
-            None => Head::Malformed,
-        },
+        Err(ReadFault::Malformed) => notice_of(bytes),
         _ => Head::NoMemory,
     }
 }
 
-// Whether the broker takes no messages, and in how many octets, if the frame at the head of bytes says that.
-fn notice_of(bytes: &[u8]) -> Option<(bool, usize)>
-    ensures { IfSome result (λ x. (frame_said_at bytes.now ≡ Some (notice x.0)) × (x.1 ≡ length_at bytes.now)) }
+// What stands at the head of bytes, where that is whole, and neither a frame for the session nor a heartbeat.
+#[tactic(auto, using(crate::proofs::Parts::noticed, crate::proofs::Parts::unnoticed, crate::proofs::Parts::none_said))]
+fn notice_of(bytes: &[u8]) -> Head
+    ensures { NoticeIs result bytes.now }
 {
     match read_said(bytes) {
-        Ok(Said::Blocked) => Some((true, length_of(bytes))),
-        Ok(Said::Unblocked) => Some((false, length_of(bytes))),
+        Ok(said) => match notice_in(said) {
+            Some(blocked) => Head::Blocked(blocked, length_of(bytes)),
+            None => Head::Malformed,
+        },
+        Err(ReadFault::Malformed) => Head::Malformed,
+        Err(ReadFault::NoMemory) => Head::NoMemory,
+    }
+}
+
+// Whether the broker takes no messages, if what a frame says is that.
+fn notice_in(said: Said) -> Option<bool>
+    ensures { result ≡ notice_in_lem said }
+{
+    match said {
+        Said::Blocked => Some(true),
+        Said::Unblocked => Some(false),
         _ => None,
     }
 }

@@ -7,9 +7,9 @@ ghost use Rattle.lapin_client.specs.Statuses.{code_of};
 pub enum Status {
     /// It was done.
     Done,
-    /// The session refused it: the answer is the line of the refusal.
+    /// The session refused it: `Client::why` says why.
     Refused,
-    /// A line is none that a client takes, or an argument is no short text. Nothing was done.
+    /// Octets are no call, a line is none that a client takes, or an argument is no short text. Nothing was done.
     NotInGrammar,
     /// There was no memory, and nothing was lost: call again. Of `receive`: the bytes were not kept, and all is as it was.
     NoMemory,
@@ -27,8 +27,6 @@ pub enum Status {
     Gone,
     /// The bytes that came were kept, and there was no memory for the frame at their head, which was not taken: call again, with none.
     Kept,
-    /// The session refused it, and there was no memory for the line of the refusal.
-    Untold,
 }
 
 impl Status {
@@ -48,7 +46,6 @@ impl Status {
             Status::Pending => 8,
             Status::Gone => 9,
             Status::Kept => 10,
-            Status::Untold => 11,
         }
     }
 }

@@ -5,7 +5,7 @@ use Rattle.lapin_client.proofs.Requests.{finishes_of, hands_idle, hands_next, no
 use Rattle.lapin_client.proofs.client.Client.finish_on.Goals as goal
 
 pub loop-self-init : goal.loop-self-init
-loop-self-init c = record { sound = c.requires.sound; told = (0, (none_held c.args.self.now c.args.self.now c.requires.none refl refl refl c.requires.none (refl, refl, refl, refl, refl)).0); none = c.requires.none; same = (refl, refl, refl, refl, refl) }
+loop-self-init c = record { sound = c.requires.sound; told = (0, (none_held c.args.self.now c.args.self.now c.requires.none refl refl refl c.requires.none (refl, refl, refl, refl, refl, refl, refl)).0); none = c.requires.none; same = (refl, refl, refl, refl, refl, refl, refl) }
 
 -- one more frame left
 pub loop-self-preserved : goal.loop-self-preserved

@@ -13,4 +13,4 @@ returns-in-Ok-clause-sound c =
 pub returns-in-Err-clause-told : goal.returns-in-Err-clause-told
 returns-in-Err-clause-told c =
     subst (λ (s : Status). Forgotten s c.args.confirm c.args.self.now (record c.args.self.now { session = c.set_aside.new.self })) (sym c.forget_fault.ensures)
-    (forgotten_not c.in-Err.error c.args.confirm c.args.self.now (record c.args.self.now { session = c.set_aside.new.self }) c.in-Err.ensures.numbers c.in-Err.ensures.told c.in-Err.ensures.err (refl, refl, refl, refl, refl, refl))
+    (forgotten_not c.in-Err.error c.args.confirm c.args.self.now (record c.args.self.now { session = c.set_aside.new.self }) c.in-Err.ensures.numbers c.in-Err.ensures.told (c.in-Err.ensures.err, (refl, refl, refl), (refl, refl, refl, refl, refl, refl)))

@@ -1,19 +1,23 @@
-use Rattle.std.proofs.Common.{◌∙◌}
-use Rattle.lapin_client.proofs.Refused.{not_met}
+use Rattle.std.proofs.Common.{◌∙◌, refl}
+use Rattle.lapin_client.proofs.Refused.{not_met, told_from}
 use Rattle.lapin_machine.specs.declared.channel.Published.{Published}
 use Rattle.lapin_types.specs.declared.event.Event.TheVariants as event
 use Rattle.lapin_types.specs.declared.call.Call.TheVariants as call
-use Rattle.lapin_client.proofs.Room.{sound_next}
+use Rattle.lapin_client.proofs.Room.{sound_next, sound_same}
 use Rattle.lapin_client.proofs.client.Client.publish_values.Goals as goal
 
 pub aside_ticket-requires-clause-sound : goal.aside_ticket-requires-clause-sound
 aside_ticket-requires-clause-sound c =
     sound_next c.args.self.now.left c.args.self.now.frame_max c.args.self.now.session c.basic_publish.new.self (event.Call c.args.channel (call.BasicPublish c.args.exchange c.args.routing_key c.args.options c.args.payload c.args.properties)) c.requires.sound c.in-Ok.ensures.ok
 
+pub refuse-requires : goal.refuse-requires
+refuse-requires c =
+    sound_same c.args.self.now.left c.args.self.now.left c.args.self.now.frame_max c.args.self.now.frame_max c.args.self.now.session c.basic_publish.new.self refl refl c.in-Err.ensures.err c.requires.sound
+
 pub returns-in-Err-clause-told : goal.returns-in-Err-clause-told
 returns-in-Err-clause-told c =
     let k = call.BasicPublish c.args.exchange c.args.routing_key c.args.options c.args.payload c.args.properties in (
-      not_met Published c.refuse.result c.in-Err.error c.args.channel k c.args.self.now c.refuse.new.self c.in-Err.ensures.told c.in-Err.ensures.cause c.refuse.ensures.told,
-      c.refuse.ensures.same.0 ∙ c.in-Err.ensures.err,
-      c.refuse.ensures.same.2,
+      not_met Published c.refuse.result c.in-Err.error c.args.channel k c.args.self.now c.refuse.new.self c.in-Err.ensures.told c.in-Err.ensures.cause (told_from c.refuse.result c.in-Err.error c.args.self.now (record c.args.self.now { session = c.basic_publish.new.self }) c.refuse.new.self (refl, refl, refl) c.refuse.ensures.told),
+      c.refuse.ensures.session ∙ c.in-Err.ensures.err,
+      c.refuse.ensures.same,
     )

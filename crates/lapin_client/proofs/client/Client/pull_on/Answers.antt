@@ -5,7 +5,7 @@ use Rattle.lapin_machine.specs.World.{World}
 use Rattle.lapin_client.proofs.client.Client.pull_on.Goals as goal
 
 pub loop-alloc-init : goal.loop-alloc-init
-loop-alloc-init c = record { sound = c.requires.sound; told = (0, (none_held c.args.self.now c.args.self.now c.requires.none refl refl refl c.requires.none (refl, refl, refl, refl, refl)).0, tt); none = c.requires.none; same = (refl, refl, refl, refl, refl) }
+loop-alloc-init c = record { sound = c.requires.sound; told = (0, (none_held c.args.self.now c.args.self.now c.requires.none refl refl refl c.requires.none (refl, refl, refl, refl, refl, refl, refl)).0, tt); none = c.requires.none; same = (refl, refl, refl, refl, refl, refl, refl) }
 
 -- one more frame left
 pub loop-alloc-preserved : goal.loop-alloc-preserved

@@ -17,7 +17,7 @@ returns-in-Pending-clause-told c =
 
 pub returns-clause-told : goal.returns-clause-told
 returns-clause-told c =
-    let i = c.loop-turn.invariant in (i.told.0, (c.loop-turn.self, (i.told.1, (inl (inl (refl, refl, refl, refl)), (refl, refl, refl, refl, refl)))))
+    let i = c.loop-turn.invariant in (i.told.0, (c.loop-turn.self, (i.told.1, (inl (inl (refl, refl, refl, refl)), (refl, refl, refl, refl, refl, refl, refl)))))
 
 pub returns-in_default : goal.returns-in_default
 returns-in_default c =

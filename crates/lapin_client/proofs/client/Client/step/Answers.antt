@@ -18,7 +18,7 @@ returns-in-Done-clause-told c =
     let one : c.args.self.now.left - 1 + 1 ≡ c.args.self.now.left = omega (c.requires.some, arith) in
     let is : c.in-Ok-Some.field-0 ≡ Some c.in-Ok-Some.left = cc in
     steps_left c.in-Ok-Some.left c.args.flow c.args.self.now (record c.args.self.now { session = c.next_frame.new.self; left = c.args.self.now.left - 1 }) c.write.new.self
-    (told_handed c.args.self.now.session c.args.flow c.in-Ok-Some.left (sym is ∙ c.in-Ok-Some.ensures.told)) c.in-Ok-Some.ensures.ok refl one refl (refl, refl, refl, refl, refl) c.in-Done.ensures.told
+    (told_handed c.args.self.now.session c.args.flow c.in-Ok-Some.left (sym is ∙ c.in-Ok-Some.ensures.told)) c.in-Ok-Some.ensures.ok refl one refl (refl, refl, refl, refl, refl, refl, refl) c.in-Done.ensures.told
 
 -- or not
 pub returns-in_default-clause-told : goal.returns-in_default-clause-told
@@ -26,4 +26,4 @@ returns-in_default-clause-told c =
     let one : c.args.self.now.left - 1 + 1 ≡ c.args.self.now.left = omega (c.requires.some, arith) in
     let is : c.in-Ok-Some.field-0 ≡ Some c.in-Ok-Some.left = cc in
     steps_lost c.write.result c.in-Ok-Some.left c.args.flow c.args.self.now (record c.args.self.now { session = c.next_frame.new.self; left = c.args.self.now.left - 1 }) c.write.new.self
-    (told_handed c.args.self.now.session c.args.flow c.in-Ok-Some.left (sym is ∙ c.in-Ok-Some.ensures.told)) c.in-Ok-Some.ensures.ok refl one refl (refl, refl, refl, refl, refl) c.in_default.not-Done c.write.ensures.told
+    (told_handed c.args.self.now.session c.args.flow c.in-Ok-Some.left (sym is ∙ c.in-Ok-Some.ensures.told)) c.in-Ok-Some.ensures.ok refl one refl (refl, refl, refl, refl, refl, refl, refl) c.in_default.not-Done c.write.ensures.told

@@ -1,0 +1,14 @@
+use Rattle.std.proofs.Common.{◌-◌, ◌≤◌, ℕ, length}
+use Rattle.lapin_types.specs.declared.event.Event.TheVariants as event
+use Rattle.lapin_client.specs.Ready.{AllPending}
+use Rattle.lapin_client.proofs.client.Client.ready_consumer.Given as goal
+
+-- those that were passed have nothing
+abbrev pub invariant-loop-place : goal.invariant-loop-place
+invariant-loop-place l = record {
+  passed : AllPending (λ (n : ℕ). event.PollConsumer n) l.fn.from l.place l.consumers l.self.session;
+  behind : l.fn.from ≤ l.place;
+}
+
+abbrev pub decreases-loop-place : goal.decreases-loop-place
+decreases-loop-place l = length l.consumers - l.place
