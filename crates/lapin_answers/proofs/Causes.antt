@@ -88,7 +88,7 @@ whole_gives c acker (Some w) = by w.start
     by (start.Deliver k tag exchange key redelivered) = refl
     by (start.Return code text exchange key) = refl
 
-same_answer : (x y : Answer) → ◌≡◌ {A = Result Answer Error} (Ok x) (Ok y) → y ≡ x
+pub same_answer : (x y : Answer) → ◌≡◌ {A = Result Answer Error} (Ok x) (Ok y) → y ≡ x
 same_answer x y h = cc
 
 -- an end answers with done, or with its error
@@ -135,9 +135,13 @@ module _ (n : ℕ) (big : 4096 ≤ n) (k : ℕ) (a : Answer) (ss : List Step) (f
     | inr y ↦ inr (new_answer (past_of n ss).tickets [] (Ok a) refl k was (ap (λ v. answer_of k ((past_of n ss).tickets ++ v)) (sym y) ∙ (ap (answer_of k) (sym (tickets_after n ss f fs down)) ∙ now)))
   ]
 
+  -- where these come and give no ticket, they answer
+  pub answers_by : (xs : List TicketMark) → received_tickets i b ≡ xs → list_any gives xs ≡ false → Answers k xs (Ok a)
+  answers_by xs is plain = elim (comes xs is plain) [ inl y ↦ y | inr y ↦ absurd (none_answers k (Ok a) y) ]
+
   -- where these come, one of them answers
   by_marks : (xs : List TicketMark) → received_tickets i b ≡ xs → list_any gives xs ≡ false → (Answers k xs (Ok a) → Found) → Found
-  by_marks xs is plain found = elim (comes xs is plain) [ inl y ↦ found y | inr y ↦ absurd (none_answers k (Ok a) y) ]
+  by_marks xs is plain found = found (answers_by xs is plain)
 
   -- where none comes nothing is answered
   by_none : received_tickets i b ≡ [] → Found
@@ -222,16 +226,14 @@ module _ (n : ℕ) (big : 4096 ≤ n) (k : ℕ) (a : Answer) (ss : List Step) (f
   by_income incoming.Other is calm ok close end = by_none (ap (λ v. received_tickets v b) is)
 
   -- close-ok answers with done
-  close_done : is_close_ok_as (broker_frame f) ≡ true → a ≡ answer.Done
+  pub close_done : is_close_ok_as (broker_frame f) ≡ true → a ≡ answer.Done
   close_done ok =
       let c : ℕ = channel_of f in
       let e : Option Error = close_ok_end (phase_of c b) in
       let t : Option ℕ = close_ticket c b in
       let is : i ≡ incoming.ChannelCloseOk c = is_close_ok c i (ok_comes c f ∙ (ap (λ v. v && is_close_ok_as (broker_frame f)) (eq-eqb c c refl) ∙ ok)) in
-      elim (comes (resolved_with (Ok answer.Done) t ++ end_tickets c e b) (ap (λ v. received_tickets v b) is) (no_gives (resolved_with (Ok answer.Done) t) (end_tickets c e b) (resolved_gives t (Ok answer.Done)) (end_gives c e b))) [
-        | inl s ↦ elim (either k (resolved_with (Ok answer.Done) t) (end_tickets c e b) (Ok a) s) [ inl y ↦ same_answer answer.Done a (resolved_is k t (Ok answer.Done) (Ok a) y).1 | inr y ↦ end_done k c e b a y ]
-        | inr s ↦ absurd (none_answers k (Ok a) s)
-      ]
+      let s = answers_by (resolved_with (Ok answer.Done) t ++ end_tickets c e b) (ap (λ v. received_tickets v b) is) (no_gives (resolved_with (Ok answer.Done) t) (end_tickets c e b) (resolved_gives t (Ok answer.Done)) (end_gives c e b)) in
+      elim (either k (resolved_with (Ok answer.Done) t) (end_tickets c e b) (Ok a) s) [ inl y ↦ same_answer answer.Done a (resolved_is k t (Ok answer.Done) (Ok a) y).1 | inr y ↦ end_done k c e b a y ]
 
   by_close_frame : is_close_ok_as (broker_frame f) ≡ true → replies f ≡ false → Found
   by_close_frame ok calm = elim (closed n big ss k a f fs down ok was now) [

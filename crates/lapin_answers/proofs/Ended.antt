@@ -412,7 +412,11 @@ module _ (n : ℕ) (big : 4096 ≤ n) (k : ℕ) (ss : List Step) (f : Frame) (fs
           let r = first_end k (requests_of 0 b) t in
           let its = its_end (joined_to n ss).session s.close (filter ends_it (requests_of 0 b)) r.0 r.1 k s.are r.2 r.3 in
           let at : at_place 1 (ends_in before ++ rest) ≡ Some s.close = ap (at_place 1) (sym parts ∙ s.handed) in
-          (its.1.0, its.1.1, its.1.2, record { before = before; behind = behind; close = s.close; all = all; was_read = at-first 1 (ends_in before) rest s.close at owed; ticket = its.0; method = its.1.3 })
+          (its.1.0, its.1.1, its.1.2, record { before = before; behind = behind; close = s.close; all = all; is_ok = ok; was_read = at-first 1 (ends_in before) rest s.close at owed; ticket = its.0; method = its.1.3 })
+
+-- the connection's close-ok is sorted as such
+pub end_is : (f : Frame) → is_end_ok_as (broker_frame f) ≡ true → incoming_of f ≡ incoming.ConnectionCloseOk
+end_is f ok = end_sorts (incoming_of f) (ap is_end_down (sym (sorted f)) ∙ end_kind (channel_of f) (broker_frame f) ok)
 
 pub ended : (n : ℕ) → 4096 ≤ n → (ss : List Step) → EndIsAnswered n ss
 ended n big ss k a f fs down_is ok was now =
@@ -420,7 +424,7 @@ ended n big ss k a f fs down_is ok was now =
     let ms : List TicketMark = (past_of n ss).tickets in
     let readings : Readings = readings_of (past_of n ss).confirms ms in
     let no : Record = refused (frame_class f) (frame_method f) in
-    let sorts : incoming_of f ≡ incoming.ConnectionCloseOk = end_sorts (incoming_of f) (ap is_end_down (sym (sorted f)) ∙ end_kind (channel_of f) (broker_frame f) ok) in
+    let sorts : incoming_of f ≡ incoming.ConnectionCloseOk = end_is f ok in
     let x : Record = rec n (joined_to n ss).session (event.Receive f) in
     let told : x ≡ incoming_record b readings no incoming.ConnectionCloseOk = ap (incoming_record b readings no) sorts in
     let fine : is_refusal (incoming_record b readings no incoming.ConnectionCloseOk) ≡ false = ap is_refusal (sym told) ∙ unrefused n ss f fs down_is big in

@@ -39,7 +39,6 @@ use Rattle.lapin_answers.proofs.Getting.{on_way, header_on, body_on}
 use Rattle.lapin_answers.proofs.Gets.{Gets, gets_none, getting_on, getting_read, getting_send, getting_away, getting_comes}
 use Rattle.lapin_concord.specs.Held.{IsOneContent}
 use Rattle.lapin_tables.proofs.Bools.{not_both}
-use Rattle.lapin_messages.proofs.Comings.{alone}
 use Rattle.lapin_messages.proofs.Hearing.{part_on}
 
 -- ---- what is kept

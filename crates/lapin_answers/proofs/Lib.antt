@@ -36,5 +36,6 @@ pub mod Cancels
 pub mod Causes
 pub mod Awaited
 pub mod OneCause
+pub mod Told
 pub mod Whole
 pub mod Phases

@@ -25,7 +25,7 @@ rest_none p zero (y ∷ ys) h = elim (p y) as (λ b. (b || list_any p ys) ≡ fa
 rest_none p (suc n) (y ∷ ys) h = elim (p y) as (λ b. (b || list_any p ys) ≡ false → cond b (rest_after p n ys) (rest_after p (suc n) ys) ≡ []) [ true ↦ λ e. absurd cc | false ↦ λ e. rest_none p (suc n) ys e ] h
 
 -- what stands after one that isn't there
-rest_missing : {X : Type 0} (p : X → Bool) (n : ℕ) (xs ys : List X) → many p xs ≤ n → list_any p ys ≡ false → rest_after p n (xs ++ ys) ≡ []
+pub rest_missing : {X : Type 0} (p : X → Bool) (n : ℕ) (xs ys : List X) → many p xs ≤ n → list_any p ys ≡ false → rest_after p n (xs ++ ys) ≡ []
 rest_missing p n [] ys le h = rest_none p n ys h
 rest_missing p zero (x ∷ xs) ys le h = elim (p x) as (λ b. cond b (many p xs + 1) (many p xs) ≤ zero → cond b (xs ++ ys) (rest_after p zero (xs ++ ys)) ≡ []) [ true ↦ λ e. (let z : ⊥ = omega (arith, e) in absurd z) | false ↦ λ e. rest_missing p zero xs ys e h ] le
 rest_missing p (suc n) (x ∷ xs) ys le h = elim (p x) as (λ b. cond b (many p xs + 1) (many p xs) ≤ suc n → cond b (rest_after p n (xs ++ ys)) (rest_after p (suc n) (xs ++ ys)) ≡ []) [ true ↦ λ e. rest_missing p n xs ys (omega (arith, e)) h | false ↦ λ e. rest_missing p (suc n) xs ys e h ] le

@@ -26,6 +26,7 @@ use Rattle.lapin_answers.proofs.GetAnswer.{got_message_is}
 use Rattle.lapin_answers.proofs.OpenOks.{opened}
 use Rattle.lapin_answers.proofs.Causes.{resolved}
 use Rattle.lapin_answers.proofs.OneCause.{unwaited, closes_by_ok, ends_by_ok}
+use Rattle.lapin_answers.proofs.Told.{answers_own}
 
 -- ---- a publish that was settled has left
 
@@ -86,6 +87,7 @@ all_true n big ss = record {
   awaited = awaited n ss;
   closes_by_ok = closes_by_ok n big ss;
   end_by_ok = ends_by_ok n big ss;
+  answers = answers_own n big ss;
   logs = logs_sent n big ss;
   carried = logs_carried n big ss;
 }

@@ -141,6 +141,7 @@ pub record IsEnded (channel n : ℕ) (m : Method) (reply : Frame) (deeds : List 
   pub behind : List Deed
   pub close : Left
   pub all : deeds ≡ before ++ Sent reply ∷ behind
+  pub is_ok : is_end_ok_as (broker_frame reply) ≡ true
   pub was_read : at_place 1 (ends_in before) ≡ Some close
   pub ticket : close.ticket ≡ Some n
   pub method : close.frame ≡ frame.Method channel m

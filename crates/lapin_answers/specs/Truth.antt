@@ -26,6 +26,7 @@ use Rattle.lapin_answers.specs.Causes.{Resolves}
 use Rattle.lapin_answers.specs.Closes.{is_close_ok_as, IsCloseOf, IsClosed, is_end_ok_as, IsEndOf, IsEnded, is_open_cancel}
 use Rattle.lapin_answers.specs.Opens.{IsOpeningOf, IsOpened}
 use Rattle.lapin_answers.specs.Replies.{IsReplied, IsGot}
+use Rattle.lapin_answers.specs.Told.{AnswersAreTheirOwn}
 
 -- Where a confirm is resolved as Ack or Nack, with its tag: the broker had read whole, as the number of that tag in the opening of its
 -- channel in which it was called and left, the message of that very call, and after that it sent the settlement that resolved the
@@ -112,5 +113,6 @@ pub record IsTrue (frame_max : ℕ) (steps : List Step) : Type 0 where
   pub awaited : AwaitedAreDelivered frame_max steps
   pub closes_by_ok : ClosesAreByCloseOk frame_max steps
   pub end_by_ok : EndIsByCloseOk frame_max steps
+  pub answers : AnswersAreTheirOwn frame_max steps
   pub logs : LogsAreSent frame_max steps
   pub carried : LogsAreCarried frame_max steps

@@ -11,7 +11,8 @@ pub use replies::{
     a_close_is_answered_by_its_close_ok, a_close_ok_is_for_that_very_close,
     a_close_ok_of_the_connection_is_for_that_very_close,
     a_get_carries_what_was_sent_after_its_answer, a_reply_answers_that_very_call,
-    an_open_ok_is_for_that_very_open, no_reply_resolves_a_call_without_wait,
-    what_a_frame_resolves_awaits_it, what_no_frame_resolves_is_a_cancel,
+    an_answer_is_the_reply_to_its_call, an_open_ok_is_for_that_very_open,
+    no_reply_resolves_a_call_without_wait, what_a_frame_resolves_awaits_it,
+    what_no_frame_resolves_is_a_cancel,
 };
 pub use truth::a_session_and_an_honest_broker;

@@ -2,6 +2,7 @@
 
 ghost use Rattle.std.specs.Prelude.{◌≤◌, ℕ, List};
 ghost use Rattle.lapin_joint.specs.declared.step.Step.{Step as AStep};
+ghost use Rattle.lapin_answers.specs.Told.{AnswersAreTheirOwn};
 ghost use Rattle.lapin_answers.specs.Truth.{RepliesAnswerCalls, GetsCarryContents, OpensAreAnswered, ClosesAreAnswered, EndIsAnswered, DeliveriesResolve, UnwaitedAreNotReplied, AwaitedAreDelivered, ClosesAreByCloseOk, EndIsByCloseOk};
 
 /// In every joined run: where the reply that is delivered resolves ticket n, the call of that ticket was made on the reply's channel, the
@@ -41,21 +42,22 @@ pub fn a_close_ok_of_the_connection_is_for_that_very_close()
     ensures { (frame_max : ℕ) → 4096 ≤ frame_max → (steps : List AStep) → EndIsAnswered frame_max steps }
 {}
 
-/// In every joined run: what a delivered frame of the broker resolves with an answer awaits it. The frame is a reply, and the ticket that of
-/// a call which awaits one; or it makes the content of a get whole, is open-ok for an open, or close-ok for a close. Or it ends an opening,
-/// and the ticket is that of a `basic.cancel` that was open there: this one is done, and no reply resolved it.
+/// In every joined run: where a delivered frame of the broker resolves a ticket with an answer, one of these holds. The frame is a reply,
+/// and the ticket that of a call on its channel which awaits one. The answer is a message, and the ticket that of such a call. The frame is
+/// open-ok or close-ok, and the ticket that of an open or of a close of its channel; or it is the connection's close-ok, and the ticket
+/// that of a close of the connection. Or the frame is no reply, and the ticket that of a `basic.cancel` that was open: this one is done.
 pub fn what_a_frame_resolves_awaits_it()
     ensures { (frame_max : ℕ) → 4096 ≤ frame_max → (steps : List AStep) → DeliveriesResolve frame_max steps }
 {}
 
-/// In every joined run: no frame of the broker resolves the ticket of a call without wait with an answer, nor that of a publish, of an
-/// acknowledgement, of a limit or of an acker's call. The call answers it, or its frame as it leaves.
+/// In every joined run: no delivered frame of the broker resolves with an answer the ticket of a call without wait, nor that of a publish, of
+/// an acknowledgement, of a limit or of an acker's call.
 pub fn no_reply_resolves_a_call_without_wait()
     ensures { (frame_max : ℕ) → 4096 ≤ frame_max → (steps : List AStep) → UnwaitedAreNotReplied frame_max steps }
 {}
 
 /// In every joined run: a step that is no delivery resolves the ticket of a call that awaits a reply with an answer only where the ticket is
-/// that of a `basic.cancel` that was open. The step, a call of `connection.close` or a loss, ends its opening, and it is done.
+/// that of a `basic.cancel` that was open before the step, and the answer is that it is done.
 pub fn what_no_frame_resolves_is_a_cancel()
     ensures { (frame_max : ℕ) → 4096 ≤ frame_max → (steps : List AStep) → AwaitedAreDelivered frame_max steps }
 {}
@@ -65,4 +67,12 @@ pub fn what_no_frame_resolves_is_a_cancel()
 pub fn a_close_is_answered_by_its_close_ok()
     ensures channel { (frame_max : ℕ) → 4096 ≤ frame_max → (steps : List AStep) → ClosesAreByCloseOk frame_max steps }
     ensures connection { (frame_max : ℕ) → 4096 ≤ frame_max → (steps : List AStep) → EndIsByCloseOk frame_max steps }
+{}
+
+/// In every joined run: a ticket got each answer that it has by one step. Where the call awaits a reply, the step delivered a frame of the broker:
+/// its reply to that very call, and the answer is what the reply says; the frame by which the content became whole that it sent after its
+/// answer to that very get; or its open-ok or close-ok for that very open or close. Or the call is a `basic.cancel` that was open, whose opening
+/// the step ended: it is done.
+pub fn an_answer_is_the_reply_to_its_call()
+    ensures { (frame_max : ℕ) → 4096 ≤ frame_max → (steps : List AStep) → AnswersAreTheirOwn frame_max steps }
 {}

@@ -1,6 +1,7 @@
 -- Each call of a client as steps of a joined run.
-use Rattle.std.proofs.Common.{◌≡◌, ℕ, suc, ◌+◌, ◌<◌, Bool, true, false, List, [], ◌∷◌, ◌++◌, map, Option, Some, None, Result, Ok, Err, refl, sym, ap, subst, ◌∙◌, arith, inl, inr, ◌⊎◌}
+use Rattle.std.proofs.Common.{◌≡◌, ℕ, suc, ◌<◌, Bool, true, false, List, [], ◌∷◌, ◌++◌, map, Option, Some, None, Result, Ok, Err, refl, sym, ap, subst, ◌∙◌, arith, inl, inr, ◌⊎◌}
 use Rattle.std.proofs.lemmas.List.{append_assoc, append-nil, map-append}
+use Rattle.lapin_methods.specs.declared.options.BasicPublishOptions.{BasicPublishOptions}
 use Rattle.lapin_types.specs.declared.acker_call.AckerCall.{AckerCall}
 use Rattle.lapin_types.specs.declared.event.Event.{Event}
 use Rattle.lapin_types.specs.declared.event.Event.TheVariants as event
@@ -12,22 +13,25 @@ use Rattle.lapin_machine.specs.World.{World, full_in, next, told_by}
 use Rattle.lapin_rules.specs.Handing.{handed}
 use Rattle.lapin_joint.specs.Joint.{left_alone}
 use Rattle.lapin_types.specs.declared.record.Record.TheVariants as record_
-use Rattle.lapin_lines.specs.Lines.{IsTaken}
-use Rattle.lapin_text.specs.LineReading.{line_at}
 use Rattle.lapin_client.specs.declared.client.Client.{Client}
 use Rattle.lapin_client.specs.declared.status.Status.TheVariants as status
-use Rattle.lapin_client.specs.declared.calls.Message.{Message}
+use Rattle.lapin_client.specs.declared.message.Message.{Message}
+use Rattle.lapin_client.specs.declared.replies.Fields.{Fields}
+use Rattle.lapin_client.specs.declared.returns.Returned.{Returned}
 use Rattle.lapin_client.specs.declared.status.Status.{Status}
-use Rattle.lapin_client.specs.Clients.{Answers, SameBytes, is_own, says_own}
+use Rattle.lapin_client.specs.Asking.{CalledBy, Called, IsUndone, Limited, Unasked, limiting}
 use Rattle.lapin_client.specs.Closes.{TellsClose}
 use Rattle.lapin_client.specs.declared.closes.CloseReason.{CloseReason}
-use Rattle.lapin_client.specs.Calls.{Published, OutcomeTold, Delivered, Settled, Forgotten, fate_call, publishing}
+use Rattle.lapin_client.specs.Calls.{Published, PublishedBy, OutcomeTold, Settled, Forgotten, fate_call, publishing}
+use Rattle.lapin_client.specs.Replies.{Delivered, Replied}
+use Rattle.lapin_client.specs.Returns.{ReturnTold, ConfirmTold, UnclaimedTold}
 use Rattle.lapin_client.specs.Sending.{Finishes, Pulls, Sends as SendsOut, HandsOut, HeldFits, Holds, SameElse, Stops, Waits, AllWithin, AllFit as AllFitOut, after_requests, bytes_handed, held_bytes, to_leave}
-use Rattle.lapin_clients.specs.Calls.{Call, Line, Publish, Outcome, Delivery, Settle, Forget, Send, Finish, LastClose, IsCall, says_lost}
-use Rattle.lapin_clients.specs.Joined.{AreSent, IsJoined, as_dealt, held_frames}
+use Rattle.lapin_clients.specs.Calls.{Call, Ask, Limit, Reply, ForgetCall, Publish, Outcome, Confirmed, Unclaimed, ReturnAt, Delivery, Settle, Forget, ReadyConsumer, ReadyReply, Why, StatesNow, Send, Finish, LastClose, IsCall}
+use Rattle.lapin_clients.specs.Joined.{AreSent, IsJoined, as_dealt, hearing, held_frames}
 use Rattle.lapin_clients.specs.Nets.{Net}
 use Rattle.lapin_clients.specs.Pieces.{Piece, ArePieces, octets_in, octets_of, frames_in, frames_left, Fits, AllFit}
-use Rattle.lapin_clients.proofs.Requests.{asks, asks_run, asks_quiet, lefts_of, with_asked, pieces_left, octets_both, frames_both, fit_both, left_frames, handed_octets, handed_fit, told_handed, held_octets, held_in, held_fits, shown_frame}
+use Rattle.lapin_clients.proofs.Strays.{coming_so}
+use Rattle.lapin_clients.proofs.Requests.{asks, asks_less, asks_run, asks_quiet, lefts_of, with_asked, pieces_left, octets_both, frames_both, fit_both, left_frames, handed_octets, handed_fit, told_handed, held_octets, held_in, held_fits, shown_frame}
 use Rattle.lapin_clients.proofs.Fewer.{stops_less}
 use Rattle.lapin_clients.proofs.Going.{dead, GoesOn, goes_both, is_inner, sent_so, SameNet, still_none, no_move, no_step, one_step, two_steps}
 
@@ -103,7 +107,7 @@ module _ (n k : ℕ) (flow : Bool) (x y : Net) (j : Joint World) (is : IsJoined 
         session = session ∙ ap (after_requests k flow) is.session;
         broker = same.broker ∙ is.broker;
         up = sent_so n (frames_left (j.up ++ lefts_of k flow j.session)) (ap (λ u. u ++ y.client.leaving.items) same.up) refl sent;
-        down = subst (λ os. ArePieces n os j.down) (sym down) is.down;
+        down = coming_so n (x.client.came ++ x.down) (y.client.came ++ y.down) (hearing j.session) (hearing (after_requests k flow j.session)) x.besides y.besides j.down down same.besides (asks_less k flow j.session) is.down;
       } in
       record { steps = asks k flow; joined = subst (IsJoined n y) (sym (asks_run k flow j)) here; dealt_is = ap (map as_dealt) (asks_quiet k flow j) }
 
@@ -112,7 +116,7 @@ alive_behind s b d h alive = let less = stops_less b d s false h in omega (arith
 
 -- of the second stretch of two all else is the same, if it is of the first and of both
 else_between : (c b d : Client) → SameElse c b → SameElse c d → SameElse b d
-else_between c b d h k = (k.0 ∙ sym h.0, k.1 ∙ sym h.1, k.2 ∙ sym h.2, k.3 ∙ sym h.3, k.4 ∙ sym h.4)
+else_between c b d h k = (k.0 ∙ sym h.0, k.1 ∙ sym h.1, k.2 ∙ sym h.2, k.3 ∙ sym h.3, k.4 ∙ sym h.4, k.5 ∙ sym h.5, k.6 ∙ sym h.6)
 
 module _ (n : ℕ) (x y : Net) (j : Joint World) (none : j.session.returned ≡ None) (is : IsJoined n x j) (same : SameNet x y) (alive : 0 < y.client.left) where
   over : y.client.left ≡ 0 → GoesOn n [] y j
@@ -120,16 +124,6 @@ module _ (n : ℕ) (x y : Net) (j : Joint World) (none : j.session.returned ≡ 
 
   ended : y.client ≡ x.client → GoesOn n [] y j
   ended e = no_move n x y j is same (record { leaving = ap (λ (c : Client). c.leaving.items) e; came = ap (λ (c : Client). c.came) e; most = ap (λ (c : Client). c.frame_max) e; unsent = ap (λ (c : Client). c.unsent) e }) (ap (λ (c : Client). c.session) e)
-
-  inner : (e : Event) → is_own e ≡ true → says_lost (Some e) ≡ false → is_inner e ≡ true
-  inner (event.Next flow) own here = absurd cc
-  inner (event.Receive f) own here = absurd cc
-  inner event.Lost own here = absurd cc
-  inner _ own here = refl
-
-  line_goes : (o : Option Event) (t : List ℕ) → says_own o ≡ true → says_lost o ≡ false → IsTaken o x.client.session y.client.session [] t true → SameBytes x.client y.client → GoesOn n [] y j
-  line_goes None t own here h s = no_step n x y j is same s h.1
-  line_goes (Some e) t own here h s = one_step n x y j is same e (inner e own here) s h.1.0
 
   requests_go : (k : ℕ) (flow : Bool) → HandsOut k flow x.client y.client → SameElse x.client y.client → GoesOn n [] y j
   requests_go k flow h else_ = asked n k flow x y j is same h.0 else_ (sent_so n (frames_left (j.up ++ lefts_of k flow j.session)) refl h.1.4 (sent_on n k flow x j none is y.client.leaving.items h.1.0 h.1.1 h.1.3 h.1.5))
@@ -153,22 +147,58 @@ module _ (n : ℕ) (x y : Net) (j : Joint World) (none : j.session.returned ≡ 
   stops_go status.Ended flow h else_ = over h.1
   stops_go _ flow h else_ = absurd h
 
-  answers_go : (line : List ℕ) (s : Status) → says_lost (line_at line) ≡ false → Answers s line x.client y.client → GoesOn n [] y j
-  answers_go line status.Done here h = line_goes (line_at line) y.client.answer.items h.2 here h.0 h.1
-  answers_go line status.NotInGrammar here h = no_step n x y j is same h.3 h.1
-  answers_go line status.NoMemory here h = over h.0
-  answers_go line status.Ended here h = ended h.1
-  answers_go line _ here h = absurd h
-
   closes_go : (channel : ℕ) (r : Result CloseReason Status) → TellsClose r channel x.client y.client → GoesOn n [] y j
   closes_go channel (Ok r) h = no_step n x y j is same h.3 h.1
   closes_go channel (Err status.Pending) h = ended h.1
   closes_go channel (Err status.NoMemory) h = no_step n x y j is same h.3 h.1
   closes_go channel (Err _) h = absurd h
 
-  publish_goes : (channel : ℕ) (exchange key : List ℕ) (mandatory : Bool) (payload properties : List ℕ) (r : Result ℕ Status) → Published r channel exchange key mandatory payload properties x.client y.client → GoesOn n [] y j
-  publish_goes channel exchange key mandatory payload properties (Ok confirm) h = two_steps n x y j is same (publishing channel exchange key mandatory payload h.0.0) (event.AsideTicket h.0.2.0) refl refl h.1 h.0.2.2
-  publish_goes channel exchange key mandatory payload properties (Err e) h = no_step n x y j is same h.2 h.1
+  undone_goes : IsUndone x.client y.client → GoesOn n [] y j
+  undone_goes h = no_step n x y j is same h.2 h.0
+
+  -- a call that isn't a publish, by its event
+  called_by_goes : (e : Event) → is_inner e ≡ true → (r : Result ℕ Status) → CalledBy r e x.client y.client → GoesOn n [] y j
+  called_by_goes e own (Ok ticket) h = one_step n x y j is same e own h.3 h.1
+  called_by_goes e own (Err s) h = no_step n x y j is same h.2 h.1
+
+  asked_goes : (channel : ℕ) (octets : List ℕ) (r : Result ℕ Status) → Called r channel octets x.client y.client → GoesOn n [] y j
+  asked_goes channel octets (Ok ticket) h = called_by_goes (event.Call channel h.1.0) refl (Ok ticket) h.1.2
+  asked_goes channel octets (Err status.TooLong) h = undone_goes h.1
+  asked_goes channel octets (Err status.NotInGrammar) h = undone_goes h.1
+  asked_goes channel octets (Err status.NoMemory) h = undone_goes h
+  asked_goes channel octets (Err status.Ended) h = undone_goes h.1
+  asked_goes channel octets (Err _) h = no_step n x y j is same h.1.2.2 h.1.2.1
+
+  limited_goes : (channel limit : ℕ) (r : Result ℕ Status) → Limited r channel limit x.client y.client → GoesOn n [] y j
+  limited_goes channel limit (Ok ticket) h = called_by_goes (limiting channel limit) refl (Ok ticket) h
+  limited_goes channel limit (Err status.Ended) h = undone_goes h.1
+  limited_goes channel limit (Err _) h = no_step n x y j is same h.2 h.1
+
+  replied_goes : (ticket : ℕ) (r : Result Fields Status) → Replied r ticket x.client y.client → GoesOn n [] y j
+  replied_goes ticket (Ok f) h = one_step n x y j is same (event.PollTicket ticket) refl h.3 h.2
+  replied_goes ticket (Err status.Pending) h = one_step n x y j is same (event.PollTicket ticket) refl h.3 h.2
+  replied_goes ticket (Err status.Refused) h = one_step n x y j is same (event.PollTicket ticket) refl h.2 h.1
+  replied_goes ticket (Err status.NoMemory) h = over h.1
+  replied_goes ticket (Err status.Ended) h = ended h.1
+  replied_goes ticket (Err _) h = absurd h
+
+  unasked_goes : (ticket : ℕ) (s : Status) → Unasked s ticket x.client y.client → GoesOn n [] y j
+  unasked_goes ticket status.Done h = one_step n x y j is same (event.AsideTicket ticket) refl h.3 h.1
+  unasked_goes ticket status.Gone h = undone_goes h.1
+  unasked_goes ticket status.Ended h = ended h.1
+  unasked_goes ticket _ h = absurd h
+
+  published_by_goes : (channel : ℕ) (exchange key : List ℕ) (options : BasicPublishOptions) (payload properties : List ℕ) (r : Result ℕ Status) → PublishedBy r (publishing channel exchange key options payload properties) x.client y.client → GoesOn n [] y j
+  published_by_goes channel exchange key options payload properties (Ok confirm) h = two_steps n x y j is same (publishing channel exchange key options payload properties) (event.AsideTicket h.0.0) refl refl h.2 h.0.2
+  published_by_goes channel exchange key options payload properties (Err s) h = no_step n x y j is same h.2 h.1
+
+  publish_goes : (channel : ℕ) (exchange key : List ℕ) (options : BasicPublishOptions) (payload properties : List ℕ) (r : Result ℕ Status) → Published r channel exchange key options payload properties x.client y.client → GoesOn n [] y j
+  publish_goes channel exchange key options payload properties (Ok confirm) h = published_by_goes channel exchange key options payload properties (Ok confirm) h.1
+  publish_goes channel exchange key options payload properties (Err status.TooLong) h = undone_goes h.1
+  publish_goes channel exchange key options payload properties (Err status.NotInGrammar) h = undone_goes h.1
+  publish_goes channel exchange key options payload properties (Err status.NoMemory) h = undone_goes h
+  publish_goes channel exchange key options payload properties (Err status.Ended) h = undone_goes h.1
+  publish_goes channel exchange key options payload properties (Err _) h = no_step n x y j is same h.1.2 h.1.1
 
   outcome_goes : (confirm code : ℕ) → OutcomeTold code confirm x.client y.client → GoesOn n [] y j
   outcome_goes confirm code h = elim h.0 [
@@ -176,33 +206,48 @@ module _ (n : ℕ) (x y : Net) (j : Joint World) (none : j.session.returned ≡ 
     | inr told ↦ one_step n x y j is same (event.PollConfirm confirm) refl h.1 told.2
   ]
 
+  confirm_goes : (confirm : ℕ) (r : Result ℕ Status) → ConfirmTold r confirm x.client y.client → GoesOn n [] y j
+  confirm_goes confirm (Ok code) h = one_step n x y j is same (event.PollConfirm confirm) refl h.2 h.1
+  confirm_goes confirm (Err status.Pending) h = one_step n x y j is same (event.PollConfirm confirm) refl h.3 h.2
+  confirm_goes confirm (Err status.Refused) h = one_step n x y j is same (event.PollConfirm confirm) refl h.2 h.1
+  confirm_goes confirm (Err status.Ended) h = ended h.1
+  confirm_goes confirm (Err _) h = absurd h
+
+  wait_goes : (channel : ℕ) (r : Result ℕ Status) → UnclaimedTold r channel x.client y.client → GoesOn n [] y j
+  wait_goes channel (Ok count) h = one_step n x y j is same (event.PollWait channel) refl h.4 h.3
+  wait_goes channel (Err status.Pending) h = one_step n x y j is same (event.PollWait channel) refl h.3 h.2
+  wait_goes channel (Err status.NoMemory) h = undone_goes h
+  wait_goes channel (Err status.Ended) h = ended h.1
+  wait_goes channel (Err _) h = absurd h
+
+  back_goes : (place : ℕ) (r : Result Returned Status) → ReturnTold r place x.client y.client → GoesOn n [] y j
+  back_goes place (Ok m) h = no_step n x y j is same h.5 h.3
+  back_goes place (Err status.Pending) h = ended h.1
+  back_goes place (Err status.NoMemory) h = ended h
+  back_goes place (Err _) h = absurd h
+
   delivery_goes : (consumer : ℕ) (r : Result Message Status) → Delivered r consumer x.client y.client → GoesOn n [] y j
-  delivery_goes consumer (Ok m) h = one_step n x y j is same (event.PollConsumer consumer) refl h.1 h.0.2
-  delivery_goes consumer (Err status.Pending) h = one_step n x y j is same (event.PollConsumer consumer) refl h.2 h.1
-  delivery_goes consumer (Err status.Gone) h = one_step n x y j is same (event.PollConsumer consumer) refl h.2 h.1
+  delivery_goes consumer (Ok m) h = one_step n x y j is same (event.PollConsumer consumer) refl h.3 h.2
+  delivery_goes consumer (Err status.Pending) h = one_step n x y j is same (event.PollConsumer consumer) refl h.3 h.2
+  delivery_goes consumer (Err status.Gone) h = one_step n x y j is same (event.PollConsumer consumer) refl h.3 h.2
   delivery_goes consumer (Err status.Refused) h = one_step n x y j is same (event.PollConsumer consumer) refl h.2 h.1
-  delivery_goes consumer (Err status.Untold) h = one_step n x y j is same (event.PollConsumer consumer) refl h.2 h.1
-  delivery_goes consumer (Err status.NoMemory) h = over h.0
-  delivery_goes consumer (Err status.Ended) h = elim h [
-    | inl e ↦ ended e.1
-    | inr t ↦ one_step n x y j is same (event.PollConsumer consumer) refl t.2 t.1
-  ]
+  delivery_goes consumer (Err status.NoMemory) h = over h.1
+  delivery_goes consumer (Err status.Ended) h = ended h.1
   delivery_goes consumer (Err _) h = absurd h
 
   settle_goes : (acker : ℕ) (k : AckerCall) (s : Status) → Settled s acker k x.client y.client → GoesOn n [] y j
-  settle_goes acker k status.Done h = two_steps n x y j is same (event.Acker acker k) (event.AsideTicket h.0.0) refl refl h.1 h.0.2
-  settle_goes acker k status.Gone h = one_step n x y j is same (event.Acker acker k) refl h.2 h.1
+  settle_goes acker k status.Done h = two_steps n x y j is same (event.Acker acker k) (event.AsideTicket h.0.0) refl refl h.2 h.0.2
+  settle_goes acker k status.Gone h = one_step n x y j is same (event.Acker acker k) refl h.3 h.1
   settle_goes acker k status.Refused h = one_step n x y j is same (event.Acker acker k) refl h.2 h.1
-  settle_goes acker k status.Untold h = one_step n x y j is same (event.Acker acker k) refl h.2 h.1
-  settle_goes acker k status.NoMemory h = no_step n x y j is same h.1 h.0
-  settle_goes acker k status.Ended h = no_step n x y j is same h.2 h.1
+  settle_goes acker k status.NoMemory h = undone_goes h
+  settle_goes acker k status.Ended h = undone_goes h.1
   settle_goes acker k _ h = absurd h
 
   forget_goes : (confirm : ℕ) (s : Status) → Forgotten s confirm x.client y.client → GoesOn n [] y j
-  forget_goes confirm status.Done h = one_step n x y j is same (event.AsideConfirm confirm) refl h.2 h.1
-  forget_goes confirm status.Gone h = no_step n x y j is same h.2 h.1
-  forget_goes confirm status.NoMemory h = no_step n x y j is same h.1 h.0
-  forget_goes confirm status.Ended h = no_step n x y j is same h.2 h.1
+  forget_goes confirm status.Done h = one_step n x y j is same (event.AsideConfirm confirm) refl h.3 h.1
+  forget_goes confirm status.Gone h = undone_goes h.1
+  forget_goes confirm status.NoMemory h = undone_goes h
+  forget_goes confirm status.Ended h = undone_goes h.1
   forget_goes confirm _ h = absurd h
 
   finish_goes : (s : Status) → Finishes s x.client y.client → GoesOn n [] y j
@@ -216,19 +261,19 @@ module _ (n : ℕ) (x y : Net) (j : Joint World) (none : j.session.returned ≡ 
   -- a first stretch of requests, and what is behind it
   module _ (flow : Bool) (b : Client) (k : ℕ) (hands : HandsOut k flow x.client b) (else_ : SameElse x.client b) (more : 0 < b.left) where
     abbrev between : Net
-    between = record { client = b; broker = x.broker; up = x.up; down = x.down }
+    between = record { client = b; broker = x.broker; up = x.up; down = x.down; besides = x.besides }
 
     first : GoesOn n [] between j
-    first = requests_go n x between j none is (record { broker = refl; up = refl; down = refl }) more k flow hands else_
+    first = requests_go n x between j none is (record { broker = refl; up = refl; down = refl; besides = refl }) more k flow hands else_
 
     still : (run by_machine first.steps j).session.returned ≡ None
     still = still_none first.steps j none
 
     then_finish : Finishes status.Done b y.client → GoesOn n [] y j
-    then_finish h = goes_both n [] [] between y j first (finish_goes n between y (run by_machine first.steps j) still first.joined (record { broker = same.broker; up = same.up; down = same.down }) alive status.Done h)
+    then_finish h = goes_both n [] [] between y j first (finish_goes n between y (run by_machine first.steps j) still first.joined (record { broker = same.broker; up = same.up; down = same.down; besides = same.besides }) alive status.Done h)
 
     then_stop : (s : Status) → Stops s false b y.client → SameElse b y.client → GoesOn n [] y j
-    then_stop s h e = goes_both n [] [] between y j first (stops_go n between y (run by_machine first.steps j) still first.joined (record { broker = same.broker; up = same.up; down = same.down }) alive s false h e)
+    then_stop s h e = goes_both n [] [] between y j first (stops_go n between y (run by_machine first.steps j) still first.joined (record { broker = same.broker; up = same.up; down = same.down; besides = same.besides }) alive s false h e)
 
   stopped : (s : Status) (flow : Bool) (enough : ℕ) → Stops s flow x.client y.client ⊎ ((b : Client) × Pulls status.Done enough flow x.client b × Stops s false b y.client) → SameElse x.client y.client → GoesOn n [] y j
   stopped s flow enough (inl h) e = stops_go n x y j none is same alive s flow h e
@@ -248,15 +293,24 @@ module _ (n : ℕ) (x y : Net) (j : Joint World) (none : j.session.returned ≡ 
   sends_go flow enough status.Pending h = stopped status.Pending flow enough h.0 h.1
   sends_go flow enough status.Gone h = stopped status.Gone flow enough h.0 h.1
   sends_go flow enough status.Kept h = stopped status.Kept flow enough h.0 h.1
-  sends_go flow enough status.Untold h = stopped status.Untold flow enough h.0 h.1
 
   pub call_goes : (k : Call) → IsCall k x.client y.client → GoesOn n [] y j
-  call_goes (Line line s octets) h = answers_go n x y j none is same alive line s h.0 h.1
-  call_goes (Publish channel exchange key mandatory payload properties r) h = publish_goes n x y j none is same alive channel exchange key mandatory payload properties r h.0
+  call_goes (Ask channel method r) h = asked_goes n x y j none is same alive channel method r h.0
+  call_goes (Limit channel limit r) h = limited_goes n x y j none is same alive channel limit r h.0
+  call_goes (Reply ticket r octets) h = replied_goes n x y j none is same alive ticket r h.0
+  call_goes (ForgetCall ticket s) h = unasked_goes n x y j none is same alive ticket s h.0
+  call_goes (Publish channel exchange key options payload properties r) h = publish_goes n x y j none is same alive channel exchange key options payload properties r h.0
   call_goes (Outcome confirm code) h = outcome_goes n x y j none is same alive confirm code h.0
+  call_goes (Confirmed confirm r) h = confirm_goes n x y j none is same alive confirm r h.0
+  call_goes (Unclaimed channel r) h = wait_goes n x y j none is same alive channel r h.0
+  call_goes (ReturnAt place r octets) h = back_goes n x y j none is same alive place r h.0
   call_goes (Delivery consumer r octets) h = delivery_goes n x y j none is same alive consumer r h.0
   call_goes (Settle acker fate multiple requeue s) h = settle_goes n x y j none is same alive acker (fate_call fate multiple requeue) s h.0
   call_goes (Forget confirm s) h = forget_goes n x y j none is same alive confirm s h.0
+  call_goes (ReadyConsumer consumers from r) h = ended n x y j none is same alive h.1
+  call_goes (ReadyReply tickets from r) h = ended n x y j none is same alive h.1
+  call_goes (Why r) h = ended n x y j none is same alive h.1
+  call_goes (StatesNow channel s) h = ended n x y j none is same alive h.1
   call_goes (Send flow enough s) h = sends_go flow enough s h
   call_goes (Finish s) h = finish_goes n x y j none is same alive s h
   call_goes (LastClose channel r octets) h = closes_go n x y j none is same alive channel r h.0

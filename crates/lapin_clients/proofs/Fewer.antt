@@ -2,17 +2,17 @@
 use Rattle.std.proofs.Common.{◌≡◌, ℕ, zero, suc, ◌+◌, ◌≤◌, ◌<◌, Bool, false, List, [], ◌∷◌, Option, Some, None, Result, Ok, Err, ap, inl, inr, arith, ◌⊎◌}
 use Rattle.lapin_types.specs.Types.{Frame}
 use Rattle.lapin_client.specs.declared.client.Client.{Client}
-use Rattle.lapin_client.specs.declared.calls.Message.{Message}
 use Rattle.lapin_client.specs.declared.status.Status.{Status}
 use Rattle.lapin_client.specs.declared.status.Status.TheVariants as status
-use Rattle.lapin_client.specs.Clients.{Answers}
-use Rattle.lapin_client.specs.Counts.{LineCounts, PublishCounts, OneAtMost, OutcomeCounts, PollCounts, SettleCounts, ForgetCounts}
+use Rattle.lapin_client.specs.Counts.{CallCounts, OneWhereDone, PublishCounts, OutcomeCounts, PollCounts, SettleCounts, UnclaimedCounts}
+use Rattle.lapin_client.specs.declared.returns.Returned.{Returned}
+use Rattle.lapin_client.specs.Returns.{ReturnTold}
 use Rattle.lapin_client.specs.Receiving.{Comes as ComeAll, IsLonger, IsTurnOf, Receives, Runs, TurnLeaves, Turns}
 use Rattle.lapin_client.specs.Sending.{Finishes, Pulls, Sends as SendsOut, Stops}
 use Rattle.lapin_client.specs.Closes.{TellsClose}
 use Rattle.lapin_client.specs.declared.closes.CloseReason.{CloseReason}
-use Rattle.lapin_clients.specs.Calls.{Call, Line, Publish, Outcome, Delivery, Settle, Forget, Send, Finish, LastClose, IsCall}
-use Rattle.lapin_clients.specs.Nets.{Net, Act, Calls, Leaves, Beats, Comes, Reads, Sends, Does, Leads}
+use Rattle.lapin_clients.specs.Calls.{Call, Ask, Limit, Reply, ForgetCall, Publish, Outcome, Confirmed, Unclaimed, ReturnAt, Delivery, Settle, Forget, ReadyConsumer, ReadyReply, Why, StatesNow, Send, Finish, LastClose, IsCall}
+use Rattle.lapin_clients.specs.Nets.{Net, Act, Calls, Leaves, Beats, Comes, Reads, Sends, Strays, Does, Leads}
 
 -- ---- numbers
 
@@ -37,12 +37,9 @@ module _ (c d : Client) where
   unchanged : d ≡ c → Less
   unchanged e = same d.left c.left (ap (λ (b : Client). b.left) e)
 
-  line_less : (line : List ℕ) (s : Status) → Answers s line c d → LineCounts s c d → Less
-  line_less line status.Done h k = used d.left c.left 1 k
-  line_less line status.NotInGrammar h k = same d.left c.left k
-  line_less line status.NoMemory h k = none d.left c.left h.0
-  line_less line status.Ended h k = unchanged h.1
-  line_less line _ h k = absurd h
+  asked_less : (r : Result ℕ Status) → CallCounts r c d → Less
+  asked_less (Ok n) k = used d.left c.left 1 k
+  asked_less (Err s) k = same d.left c.left k
 
   publish_less : (r : Result ℕ Status) → PublishCounts r c d → Less
   publish_less (Ok n) k = used d.left c.left 2 k
@@ -52,25 +49,32 @@ module _ (c d : Client) where
   outcome_less code (inl k) = same d.left c.left k.1
   outcome_less code (inr k) = used d.left c.left 1 k
 
-  one_less : OneAtMost c d → Less
-  one_less (inl k) = same d.left c.left k
-  one_less (inr k) = used d.left c.left 1 k
-
-  poll_less : (r : Result Message Status) → PollCounts r c d → Less
+  poll_less : {A : Type 0} (r : Result A Status) → PollCounts r c d → Less
   poll_less (Ok m) k = used d.left c.left 1 k
   poll_less (Err status.NoMemory) k = none d.left c.left k
-  poll_less (Err status.Ended) k = one_less k
+  poll_less (Err status.Ended) k = same d.left c.left k
   poll_less (Err _) k = used d.left c.left 1 k
+
+  wait_less : (r : Result ℕ Status) → UnclaimedCounts r c d → Less
+  wait_less (Ok n) k = used d.left c.left 1 k
+  wait_less (Err status.NoMemory) k = same d.left c.left k
+  wait_less (Err status.Ended) k = same d.left c.left k
+  wait_less (Err _) k = used d.left c.left 1 k
+
+  back_less : (place : ℕ) (r : Result Returned Status) → ReturnTold r place c d → Less
+  back_less place (Ok m) h = same d.left c.left h.4
+  back_less place (Err status.Pending) h = unchanged h.1
+  back_less place (Err status.NoMemory) h = unchanged h
+  back_less place (Err _) h = absurd h
 
   settle_less : (s : Status) → SettleCounts s c d → Less
   settle_less status.Done k = used d.left c.left 2 k
   settle_less status.Refused k = used d.left c.left 1 k
-  settle_less status.Untold k = used d.left c.left 1 k
   settle_less _ k = same d.left c.left k
 
-  forget_less : (s : Status) → ForgetCounts s c d → Less
-  forget_less status.Done k = used d.left c.left 1 k
-  forget_less _ k = same d.left c.left k
+  one_less : (s : Status) → OneWhereDone s c d → Less
+  one_less status.Done k = used d.left c.left 1 k
+  one_less _ k = same d.left c.left k
 
   -- requests that came to no end
   pub stops_less : (s : Status) (flow : Bool) → Stops s flow c d → Less
@@ -111,7 +115,6 @@ module _ (c d : Client) where
   last_less status.Malformed h = unchanged h.2
   last_less status.TooLong (inl h) = unchanged h.1
   last_less status.TooLong (inr h) = stops_less status.TooLong false h.0
-  last_less status.Untold h = turn_less (Some h.0) h.1
   last_less status.Kept h = stops_less status.NoMemory false h.0
   last_less status.Ended h = stops_less status.Ended false h.0
   last_less _ h = absurd h
@@ -132,15 +135,24 @@ send_less flow enough status.Closed c d h = stopped_less status.Closed flow enou
 send_less flow enough status.Pending c d h = stopped_less status.Pending flow enough c d h.0
 send_less flow enough status.Gone c d h = stopped_less status.Gone flow enough c d h.0
 send_less flow enough status.Kept c d h = stopped_less status.Kept flow enough c d h.0
-send_less flow enough status.Untold c d h = stopped_less status.Untold flow enough c d h.0
 
 call_less : (k : Call) (c d : Client) → IsCall k c d → d.left ≤ c.left
-call_less (Line line s octets) c d h = line_less c d line s h.1 h.2
-call_less (Publish channel exchange key mandatory payload properties r) c d h = publish_less c d r h.1
+call_less (Ask channel method r) c d h = asked_less c d r h.1
+call_less (Limit channel limit r) c d h = asked_less c d r h.1
+call_less (Reply ticket r octets) c d h = poll_less c d r h.1
+call_less (ForgetCall ticket s) c d h = one_less c d s h.1
+call_less (Publish channel exchange key options payload properties r) c d h = publish_less c d r h.1
 call_less (Outcome confirm code) c d h = outcome_less c d code h.1
+call_less (Confirmed confirm r) c d h = poll_less c d r h.1
+call_less (Unclaimed channel r) c d h = wait_less c d r h.1
+call_less (ReturnAt place r octets) c d h = back_less c d place r h.0
 call_less (Delivery consumer r octets) c d h = poll_less c d r h.1
 call_less (Settle acker fate multiple requeue s) c d h = settle_less c d s h.1
-call_less (Forget confirm s) c d h = forget_less c d s h.1
+call_less (Forget confirm s) c d h = one_less c d s h.1
+call_less (ReadyConsumer consumers from r) c d h = unchanged c d h.1
+call_less (ReadyReply tickets from r) c d h = unchanged c d h.1
+call_less (Why r) c d h = unchanged c d h.1
+call_less (StatesNow channel s) c d h = unchanged c d h.1
 call_less (Send flow enough s) c d h = send_less flow enough s c d h
 call_less (Finish s) c d h = finish_less c d s h
 call_less (LastClose channel r octets) c d h = closes_less c d channel r h.0
@@ -165,7 +177,6 @@ runs_less status.Closed c d h = cut_less status.Closed c d h
 runs_less status.Pending c d h = cut_less status.Pending c d h
 runs_less status.Gone c d h = cut_less status.Gone c d h
 runs_less status.Kept c d h = cut_less status.Kept c d h
-runs_less status.Untold c d h = cut_less status.Untold c d h
 
 kept_less : (s : Status) (octets : List ℕ) (c d : Client) → (b : Client) × (IsLonger octets c b × Runs s b d) → d.left ≤ c.left
 kept_less s octets c d h = at_most d.left h.0.left c.left (runs_less s h.0 d h.1.1) (same h.0.left c.left h.1.0.0)
@@ -182,7 +193,6 @@ receives_less status.Closed octets c d h = kept_less status.Closed octets c d h
 receives_less status.Pending octets c d h = kept_less status.Pending octets c d h
 receives_less status.Gone octets c d h = kept_less status.Gone octets c d h
 receives_less status.Kept octets c d h = kept_less status.Kept octets c d h
-receives_less status.Untold octets c d h = kept_less status.Untold octets c d h
 
 -- ---- acts
 
@@ -193,6 +203,7 @@ act_less Beats x y h = unchanged x.client y.client h.1
 act_less (Comes octets s) x y h = receives_less s octets x.client y.client h.0
 act_less (Reads p) x y h = unchanged x.client y.client h.1
 act_less (Sends p) x y h = unchanged x.client y.client h.1
+act_less (Strays f) x y h = unchanged x.client y.client h.1
 
 pub never_more : (as_ : List Act) (x z : Net) → Leads as_ x z → z.client.left ≤ x.client.left
 unfolding Leads

@@ -1,12 +1,13 @@
 -- What stands whole at the head of octets that are pieces is the first of them, wherever the octets are cut.
 use Rattle.std.proofs.Common.{◌≡◌, ℕ, ◌+◌, ◌≤◌, Bool, true, false, List, [], ◌∷◌, ◌++◌, length, take, drop, Option, Some, None, refl, sym, ap, subst, ◌∙◌, arith, cond}
-use Rattle.std.specs.Prelude.{◌==◌, ◌-◌, nat_lt}
+use Rattle.std.specs.Prelude.{◌==◌, nat_lt}
 use Rattle.std.specs.Int.{w16, w32, from_be_bytes}
 use Rattle.std.proofs.lemmas.List.{length-drop, length-take, drop-append-le}
 use Rattle.std.proofs.lemmas.Option.{none-some}
 use Rattle.lapin_types.specs.Types.{Frame}
 use Rattle.lapin_fields.specs.Around.{around, around_at, ended, wanted_behind}
 use Rattle.lapin_fields.specs.Reading.{◌>>=◌, octet_at, piece_at}
+use Rattle.lapin_frames.specs.Carried.{frame_again}
 use Rattle.lapin_frames.specs.FrameReading.{frame_in, heartbeat_in, read_in, read_at, used}
 use Rattle.lapin_frames.specs.Frames.{bytes_of}
 use Rattle.lapin_frames.specs.declared.frames.Read.{Read}
@@ -15,7 +16,7 @@ use Rattle.lapin_frames.proofs.FrameLaws.{frame_back, heartbeat_back}
 use Rattle.lapin_frames.proofs.UsedLaws.{read_more}
 use Rattle.lapin_clients.specs.Pieces.{Piece, Of, Beat, Notice, octets_of, AllFit}
 
-bind_some : {A B : Type 0} (m : Option A) (k : A → Option B) (y : B) → (m >>= k) ≡ Some y → (x : A) × (m ≡ Some x) × (k x ≡ Some y)
+pub bind_some : {A B : Type 0} (m : Option A) (k : A → Option B) (y : B) → (m >>= k) ≡ Some y → (x : A) × (m ≡ Some x) × (k x ≡ Some y)
 bind_some None k y e = absurd cc
 bind_some (Some x) k y e = (x, refl, e)
 
@@ -24,7 +25,7 @@ Around = ℕ × ℕ × List ℕ
 
 -- ---- what is read stands there whole, and takes no more octets than there are
 
-mark_there : (found : Around) (d : List ℕ) (x : Around × List ℕ) → (octet_at d >>= λ mark. ended {A = Around} mark.0 found mark.1) ≡ Some x → (1 ≤ length d) × (found ≡ x.0)
+pub mark_there : (found : Around) (d : List ℕ) (x : Around × List ℕ) → (octet_at d >>= λ mark. ended {A = Around} mark.0 found mark.1) ≡ Some x → (1 ≤ length d) × (found ≡ x.0)
 mark_there found [] x e = absurd cc
 mark_there found (y ∷ d) x e =
     elim (y == 206) as (λ b. cond b (Some (found, d)) None ≡ Some x → (1 ≤ length (y ∷ d)) × (found ≡ x.0)) [
@@ -116,14 +117,14 @@ others_left came behind n first rest le e is = sym (drop-append-le n came behind
 pub read_of_all : (came behind : List ℕ) (pieces : List Piece) (r : Read) → came ++ behind ≡ octets_of pieces → read_at came ≡ Some r → read_at (octets_of pieces) ≡ Some r
 read_of_all came behind pieces r e h = ap read_at (sym e) ∙ (read_more came behind (read_here came r h).wanted ∙ h)
 
-pub frame_first : (most : ℕ) (came behind : List ℕ) (pieces : List Piece) (f : Frame) (n : ℕ) → AllFit most pieces → came ++ behind ≡ octets_of pieces → read_at came ≡ Some (read.Frame f n) → (others : List Piece) × (pieces ≡ Of f ∷ others) × (drop n came ++ behind ≡ octets_of others)
+pub frame_first : (most : ℕ) (came behind : List ℕ) (pieces : List Piece) (f : Frame) (n : ℕ) → AllFit most pieces → came ++ behind ≡ octets_of pieces → read_at came ≡ Some (read.Frame f n) → (g : Frame) × (others : List Piece) × (frame_again g ≡ f) × (pieces ≡ Of g ∷ others) × (drop n came ++ behind ≡ octets_of others)
 frame_first most came behind [] f n fit e h = let no : read_at [] ≡ Some (read.Frame f n) = read_of_all came behind [] (read.Frame f n) e h in absurd cc
 frame_first most came behind (Of g ∷ ps) f n fit e h =
     let all : read_at (bytes_of g ++ octets_of ps) ≡ Some (read.Frame f n) = read_of_all came behind (Of g ∷ ps) (read.Frame f n) e h in
-    let same : ◌≡◌ {A = Option Read} (Some (read.Frame g (length (bytes_of g)))) (Some (read.Frame f n)) = sym (frame_back g (octets_of ps) fit.0.0) ∙ all in
-    let frame : g ≡ f = cc in
+    let same : ◌≡◌ {A = Option Read} (Some (read.Frame (frame_again g) (length (bytes_of g)))) (Some (read.Frame f n)) = sym (frame_back g (octets_of ps) fit.0.0) ∙ all in
+    let frame : frame_again g ≡ f = cc in
     let size : n ≡ length (bytes_of g) = cc in
-    (ps, ap (λ x. Of x ∷ ps) frame, others_left came behind n (bytes_of g) (octets_of ps) (read_here came (read.Frame f n) h).size e size)
+    (g, ps, frame, refl, others_left came behind n (bytes_of g) (octets_of ps) (read_here came (read.Frame f n) h).size e size)
 frame_first most came behind (Beat ∷ ps) f n fit e h =
     let all : read_at (around 8 0 [] ++ octets_of ps) ≡ Some (read.Frame f n) = read_of_all came behind (Beat ∷ ps) (read.Frame f n) e h in
     let no : ◌≡◌ {A = Option Read} (Some (read.Heartbeat 8)) (Some (read.Frame f n)) = sym (heartbeat_back (octets_of ps)) ∙ all in
@@ -137,7 +138,7 @@ pub beat_first : (most : ℕ) (came behind : List ℕ) (pieces : List Piece) (n 
 beat_first most came behind [] n fit e h = let no : read_at [] ≡ Some (read.Heartbeat n) = read_of_all came behind [] (read.Heartbeat n) e h in absurd cc
 beat_first most came behind (Of g ∷ ps) n fit e h =
     let all : read_at (bytes_of g ++ octets_of ps) ≡ Some (read.Heartbeat n) = read_of_all came behind (Of g ∷ ps) (read.Heartbeat n) e h in
-    let no : ◌≡◌ {A = Option Read} (Some (read.Frame g (length (bytes_of g)))) (Some (read.Heartbeat n)) = sym (frame_back g (octets_of ps) fit.0.0) ∙ all in
+    let no : ◌≡◌ {A = Option Read} (Some (read.Frame (frame_again g) (length (bytes_of g)))) (Some (read.Heartbeat n)) = sym (frame_back g (octets_of ps) fit.0.0) ∙ all in
     absurd cc
 beat_first most came behind (Beat ∷ ps) n fit e h =
     let all : read_at (around 8 0 [] ++ octets_of ps) ≡ Some (read.Heartbeat n) = read_of_all came behind (Beat ∷ ps) (read.Heartbeat n) e h in

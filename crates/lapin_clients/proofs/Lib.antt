@@ -1,4 +1,9 @@
+pub mod Again
+pub mod Alike
 pub mod Heads
+pub mod Strays
+pub mod Deaf
+pub mod Ended
 pub mod Requests
 pub mod Going
 pub mod Fewer
@@ -10,4 +15,6 @@ pub mod Told
 pub mod Published
 pub mod Outcomes
 pub mod Messages
+pub mod Replies
 pub mod Honest
+pub mod Formed

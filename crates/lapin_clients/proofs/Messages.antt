@@ -130,8 +130,8 @@ module _ (n : ℕ) (is_law : 4096 ≤ n → (ss : List Step) → IsTrue n ss) (a
         record { run = g.1; is_true = is_true },
         record {
           message = d;
-          numbers_are = does.0.0.0.3;
-          octets_are = does.0.2 ∙ does.0.0.0.4;
+          numbers_are = does.0.0.0.2;
+          octets_are = does.0.2 ∙ does.0.0.0.3;
           place = told.place;
           number = told.number;
           story = told.story;

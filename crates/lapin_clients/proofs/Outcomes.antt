@@ -1,6 +1,8 @@
 -- An outcome that a client tells, as the history of the joined run shows it.
-use Rattle.std.proofs.Common.{◌≡◌, ℕ, ◌≤◌, ◌<◌, ◌==◌, Bool, true, false, cond, List, [], ◌∷◌, Option, Some, None, refl, sym, ap, ◌∙◌, inl, inr, arith}
+use Rattle.std.proofs.Common.{◌≡◌, ℕ, ◌≤◌, ◌<◌, ◌+◌, ◌==◌, Bool, true, false, cond, List, [], ◌∷◌, Option, Some, None, Result, Ok, Err, refl, sym, subst, ap, ◌∙◌, inl, inr, arith}
 use Rattle.std.specs.Option.{option_or}
+use Rattle.lapin_types.specs.declared.confirmation.Confirmation.{Confirmation}
+use Rattle.lapin_types.specs.declared.confirmation.Confirmation.TheVariants as confirmation
 use Rattle.lapin_types.specs.declared.event.Event.TheVariants as event
 use Rattle.lapin_types.specs.declared.record.Record.TheVariants as record_
 use Rattle.lapin_types.specs.declared.message.BasicReturnMessage.{BasicReturnMessage}
@@ -22,44 +24,47 @@ use Rattle.lapin_joint.specs.declared.step.Step.{Step}
 use Rattle.lapin_machine.specs.World.{told_by}
 use Rattle.lapin_client.specs.declared.client.Client.{Client}
 use Rattle.lapin_client.specs.Calls.{OutcomeShown}
+use Rattle.lapin_client.specs.Returns.{ConfirmShown}
 use Rattle.lapin_answers.specs.Truth.{IsTrue}
 use Rattle.lapin_verdicts.specs.Session.{past_of}
-use Rattle.lapin_clients.specs.Nets.{Act}
-use Rattle.lapin_clients.specs.Truth.{code_of, OutcomesAreVerdicts}
+use Rattle.lapin_clients.specs.Calls.{Call, Outcome as ByOutcome, Confirmed as ByConfirm}
+use Rattle.lapin_clients.specs.Nets.{Act, Calls, Does, IsNewNet, Leads, Net}
+use Rattle.lapin_clients.specs.Truth.{code_of, IsVerdictTold, OutcomesAreVerdicts, TellsOutcome}
 use Rattle.lapin_clients.proofs.Published.{run_is}
 use Rattle.lapin_clients.proofs.Told.{told_is}
 
 -- ---- what a poll told
 
-by_kind : (m : Option BasicReturnMessage) (o : Outcome) (kind : SettleKind) → confirmed m o ≡ record_.Confirmed (result_of (kind_outcome kind)) → o ≡ kind_outcome kind
-by_kind m outcome.Ack settle.Ack h = refl
-by_kind m outcome.Nack settle.Ack h = absurd (cc)
-by_kind m outcome.NotRequested settle.Ack h = absurd (cc)
-by_kind m (outcome.Failed e) settle.Ack h = absurd (cc)
-by_kind m outcome.Ack settle.Nack h = absurd (cc)
-by_kind m outcome.Nack settle.Nack h = refl
-by_kind m outcome.NotRequested settle.Nack h = absurd (cc)
-by_kind m (outcome.Failed e) settle.Nack h = absurd (cc)
+-- the kind of settlement that an outcome is, if it is one
+abbrev kind_in : Result Confirmation Error → Option SettleKind
+kind_in (Ok (confirmation.Ack m)) = Some settle.Ack
+kind_in (Ok (confirmation.Nack m)) = Some settle.Nack
+kind_in _ = None
 
-none_told : (kind : SettleKind) → record_.Pending ≡ record_.Confirmed (result_of (kind_outcome kind)) → ⊥
-none_told settle.Ack h = cc
-none_told settle.Nack h = cc
+module _ (r : Result Confirmation Error) (kind : SettleKind) (is : kind_in r ≡ Some kind) where
+  of_kind : (q : Result Confirmation Error) (k : SettleKind) → q ≡ r → kind_in q ≡ Some k → kind_outcome k ≡ kind_outcome kind
+  of_kind q k e h = let s : Some k ≡ Some kind = sym h ∙ (ap kind_in e ∙ is) in let t : k ≡ kind = cc in ap kind_outcome t
 
-polled_kind : (m : Option BasicReturnMessage) (o : Option Outcome) (kind : SettleKind) → polled_outcome m o ≡ record_.Confirmed (result_of (kind_outcome kind)) → o ≡ Some (kind_outcome kind)
-polled_kind m None kind h = absurd (none_told kind h)
-polled_kind m (Some o) kind h = ap (λ (x : Outcome). Some x) (by_kind m o kind h)
+  of_none : {P : Type 0} (q : Result Confirmation Error) → q ≡ r → kind_in q ≡ None → P
+  of_none q e h = let s : None ≡ Some kind = sym h ∙ (ap kind_in e ∙ is) in absurd cc
 
-refused_told : (e : Error) (kind : SettleKind) → record_.Refused e ≡ record_.Confirmed (result_of (kind_outcome kind)) → ⊥
-refused_told e settle.Ack h = cc
-refused_told e settle.Nack h = cc
+  by_kind : (m : Option BasicReturnMessage) (o : Outcome) → confirmed m o ≡ record_.Confirmed r → o ≡ kind_outcome kind
+  by_kind m outcome.Ack h = of_kind (Ok (confirmation.Ack m)) settle.Ack (let e : Ok (confirmation.Ack m) ≡ r = cc in e) refl
+  by_kind m outcome.Nack h = of_kind (Ok (confirmation.Nack m)) settle.Nack (let e : Ok (confirmation.Nack m) ≡ r = cc in e) refl
+  by_kind m outcome.NotRequested h = of_none (Ok confirmation.NotRequested) (let e : Ok confirmation.NotRequested ≡ r = cc in e) refl
+  by_kind m (outcome.Failed e) h = of_none (Err e) (let d : Err e ≡ r = cc in d) refl
 
-told_kind : (ms : List ConfirmMark) (k : ℕ) (kind : SettleKind) → confirm_poll ms k ≡ record_.Confirmed (result_of (kind_outcome kind)) → outcome_at k ms ≡ Some (kind_outcome kind)
-told_kind ms k kind h = at (was_added k ms) (is_finished k ms) refl refl
-  where
-    at : (a f : Bool) → was_added k ms ≡ a → is_finished k ms ≡ f → outcome_at k ms ≡ Some (kind_outcome kind)
-    at true false added finished = let now : polled_outcome (message_of k ms) (outcome_at k ms) ≡ record_.Confirmed (result_of (kind_outcome kind)) = rw (added, finished) at h in polled_kind (message_of k ms) (outcome_at k ms) kind now
-    at true true added finished = let no : record_.Refused error.AlreadyTaken ≡ record_.Confirmed (result_of (kind_outcome kind)) = rw (added, finished) at h in absurd (refused_told error.AlreadyTaken kind no)
-    at false f added finished = let no : record_.Refused error.UnknownTicket ≡ record_.Confirmed (result_of (kind_outcome kind)) = rw added at h in absurd (refused_told error.UnknownTicket kind no)
+  polled_kind : (m : Option BasicReturnMessage) (o : Option Outcome) → polled_outcome m o ≡ record_.Confirmed r → o ≡ Some (kind_outcome kind)
+  polled_kind m None h = absurd cc
+  polled_kind m (Some o) h = ap (λ (x : Outcome). Some x) (by_kind m o h)
+
+  told_kind : (ms : List ConfirmMark) (k : ℕ) → confirm_poll ms k ≡ record_.Confirmed r → outcome_at k ms ≡ Some (kind_outcome kind)
+  told_kind ms k h = at (was_added k ms) (is_finished k ms) refl refl
+    where
+      at : (a f : Bool) → was_added k ms ≡ a → is_finished k ms ≡ f → outcome_at k ms ≡ Some (kind_outcome kind)
+      at true false added finished = let now : polled_outcome (message_of k ms) (outcome_at k ms) ≡ record_.Confirmed r = rw (added, finished) at h in polled_kind (message_of k ms) (outcome_at k ms) now
+      at true true added finished = let never : record_.Refused error.AlreadyTaken ≡ record_.Confirmed r = rw (added, finished) at h in absurd cc
+      at false f added finished = let never : record_.Refused error.UnknownTicket ≡ record_.Confirmed r = rw added at h in absurd cc
 
 -- ---- its tag
 
@@ -98,36 +103,63 @@ tag_there ms k kind h = at (has_left k ms) refl
 
 -- ---- what the client told
 
-shown_kind : (o : Outcome) (kind : SettleKind) (c d : Client) → OutcomeShown (code_of kind) o c d → o ≡ kind_outcome kind
+shown_kind : (o : Outcome) (kind : SettleKind) (c d : Client) → OutcomeShown (code_of kind) o c d → kind_in (result_of o) ≡ Some kind
 shown_kind outcome.Ack settle.Ack c d h = refl
 shown_kind outcome.Ack settle.Nack c d h = let no : ◌≡◌ {A = ℕ} 2 1 = h.0 in absurd cc
 shown_kind outcome.Nack settle.Nack c d h = refl
 shown_kind outcome.Nack settle.Ack c d h = let no : ◌≡◌ {A = ℕ} 1 2 = h.0 in absurd cc
 shown_kind outcome.NotRequested settle.Ack c d h = let no : ◌≡◌ {A = ℕ} 1 3 = h.0 in absurd cc
 shown_kind outcome.NotRequested settle.Nack c d h = let no : ◌≡◌ {A = ℕ} 2 3 = h.0 in absurd cc
-shown_kind (outcome.Failed e) settle.Ack c d (inl h) = let no : ◌≡◌ {A = ℕ} 1 4 = h.0 in absurd cc
-shown_kind (outcome.Failed e) settle.Ack c d (inr h) = let no : ◌≡◌ {A = ℕ} 1 5 = h in absurd cc
-shown_kind (outcome.Failed e) settle.Nack c d (inl h) = let no : ◌≡◌ {A = ℕ} 2 4 = h.0 in absurd cc
-shown_kind (outcome.Failed e) settle.Nack c d (inr h) = let no : ◌≡◌ {A = ℕ} 2 5 = h in absurd cc
+shown_kind (outcome.Failed e) settle.Ack c d h = let no : ◌≡◌ {A = ℕ} 1 4 = h.0 in absurd cc
+shown_kind (outcome.Failed e) settle.Nack c d h = let no : ◌≡◌ {A = ℕ} 2 4 = h.0 in absurd cc
+
+whole_kind : (r : Result Confirmation Error) (kind : SettleKind) (c d : Client) → ConfirmShown (code_of kind) r c d → kind_in r ≡ Some kind
+whole_kind (Ok (confirmation.Ack m)) settle.Ack c d h = refl
+whole_kind (Ok (confirmation.Ack m)) settle.Nack c d h = let no : ◌≡◌ {A = ℕ} 2 1 = h.0 in absurd cc
+whole_kind (Ok (confirmation.Nack m)) settle.Nack c d h = refl
+whole_kind (Ok (confirmation.Nack m)) settle.Ack c d h = let no : ◌≡◌ {A = ℕ} 1 2 = h.0 in absurd cc
+whole_kind (Ok confirmation.NotRequested) settle.Ack c d h = let no : ◌≡◌ {A = ℕ} 1 3 = h.0 in absurd cc
+whole_kind (Ok confirmation.NotRequested) settle.Nack c d h = let no : ◌≡◌ {A = ℕ} 2 3 = h.0 in absurd cc
+whole_kind (Err e) settle.Ack c d h = let no : ◌≡◌ {A = ℕ} 1 4 = h.0 in absurd cc
+whole_kind (Err e) settle.Nack c d h = let no : ◌≡◌ {A = ℕ} 2 4 = h.0 in absurd cc
 
 some_code : (kind : SettleKind) → code_of kind ≡ 0 → ⊥
 some_code settle.Ack h = cc
 some_code settle.Nack h = cc
 
 module _ (n : ℕ) (is_law : 4096 ≤ n → (ss : List Step) → IsTrue n ss) (acts : List Act) where
-  pub verdicts_told : OutcomesAreVerdicts n acts
-  verdicts_told x y z k kind new leads does =
-      let counts : 0 < y.client.left = elim does.0.1 [ inl c ↦ absurd (some_code kind c.0) | inr c ↦ omega (arith, c) ] in
-      let g = run_is n acts x y new leads counts in
+  -- where the session told an outcome of this kind
+  by_record : (x y : Net) (k : ℕ) (kind : SettleKind) (r : Result Confirmation Error) → IsNewNet n x → Leads acts x y → 0 < y.client.left → kind_in r ≡ Some kind → told_by y.client.session (event.PollConfirm k) ≡ record_.Confirmed r → IsVerdictTold n acts y k kind
+  by_record x y k kind r new leads alive is told =
+      let g = run_is n acts x y new leads alive in
       let ss : List Step = g.0 in
       let e = event.PollConfirm k in
-      let told : told_by y.client.session e ≡ record_.Confirmed (result_of (kind_outcome kind)) = elim does.0.0.0 [
-        | inl z_ ↦ absurd (some_code kind z_.0)
-        | inr it ↦ it.1 ∙ ap (λ o. record_.Confirmed (result_of o)) (shown_kind it.0 kind y.client z.client it.3)
-      ] in
-      let polled : confirm_poll (past_of n ss).confirms k ≡ record_.Confirmed (result_of (kind_outcome kind)) = sym (told_is n ss e) ∙ (ap (λ w. told_by w e) (sym g.1.joined.session) ∙ told) in
-      let out : outcome_at k (past_of n ss).confirms ≡ Some (kind_outcome kind) = told_kind (past_of n ss).confirms k kind polled in
+      let polled : confirm_poll (past_of n ss).confirms k ≡ record_.Confirmed r = sym (told_is n ss e) ∙ (ap (λ w. told_by w e) (sym g.1.joined.session) ∙ told) in
+      let out : outcome_at k (past_of n ss).confirms ≡ Some (kind_outcome kind) = told_kind r kind is (past_of n ss).confirms k polled in
       let tag = tag_there (past_of n ss).confirms k kind out in
       let is_true : IsTrue n ss = is_law new.large ss in
       let v = is_true.verdicts k tag.0 kind tag.1 out in
       (ss, tag.0, v.0, record { run = g.1; is_true = is_true }, v.1, v.2)
+
+  by_outcome : (x y z : Net) (j code k : ℕ) (kind : SettleKind) → IsNewNet n x → Leads acts x y → j ≡ k → code ≡ code_of kind → Does (Calls (ByOutcome j code)) y z → IsVerdictTold n acts y k kind
+  by_outcome x y z j code k kind new leads number coded does =
+      let does : Does (Calls (ByOutcome k (code_of kind))) y z = subst (λ v. Does (Calls (ByOutcome v (code_of kind))) y z) number (subst (λ v. Does (Calls (ByOutcome j v)) y z) coded does) in
+      let alive : 0 < y.client.left = elim does.0.1 [ inl c ↦ absurd (some_code kind c.0) | inr c ↦ omega (arith, c) ] in
+      elim does.0.0.0 [
+        | inl none ↦ absurd (some_code kind none.0)
+        | inr it ↦ by_record x y k kind (result_of it.0) new leads alive (shown_kind it.0 kind y.client z.client it.3) it.1
+      ]
+
+  by_confirm : (x y z : Net) (j code k : ℕ) (kind : SettleKind) → IsNewNet n x → Leads acts x y → j ≡ k → code ≡ code_of kind → Does (Calls (ByConfirm j (Ok code))) y z → IsVerdictTold n acts y k kind
+  by_confirm x y z j code k kind new leads number coded does =
+      let does : Does (Calls (ByConfirm k (Ok (code_of kind)))) y z = subst (λ v. Does (Calls (ByConfirm v (Ok (code_of kind)))) y z) number (subst (λ v. Does (Calls (ByConfirm j (Ok v))) y z) coded does) in
+      let count : z.client.left + 1 ≡ y.client.left = does.0.1 in
+      by_record x y k kind does.0.0.0.0 new leads (omega (arith, count)) (whole_kind does.0.0.0.0 kind y.client z.client does.0.0.0.2) does.0.0.0.1
+
+  pub verdicts_told : OutcomesAreVerdicts n acts
+  verdicts_told x y z call k kind new leads tells does = by call tells does
+    where
+      by : (call : Call) → TellsOutcome call k kind → Does (Calls call) y z → IsVerdictTold n acts y k kind
+      by (ByOutcome j code) tells does = by_outcome x y z j code k kind new leads tells.0 tells.1 does
+      by (ByConfirm j (Ok code)) tells does = by_confirm x y z j code k kind new leads tells.0 tells.1 does
+      by _ tells does = absurd tells

@@ -1,7 +1,9 @@
--- A whole run of a client, as a joined run, in which each publish has its number.
+-- A whole run of a client, as a joined run, in which each publish has its number, and each call its ticket.
 use Rattle.std.proofs.Common.{◌≡◌, ℕ, suc, ◌+◌, ◌≤◌, ◌<◌, Bool, true, false, cond, List, [], ◌∷◌, ◌++◌, length, map, Some, Ok, refl, sym, ap, subst, ◌∙◌, arith}
 use Rattle.std.proofs.lemmas.List.{append_assoc, append-nil}
-use Rattle.lapin_values.specs.Properties.{Properties}
+use Rattle.lapin_frames.specs.Carried.{carrying}
+use Rattle.lapin_methods.specs.declared.options.BasicPublishOptions.{BasicPublishOptions}
+use Rattle.lapin_types.specs.declared.call.Call.{Call as SessionCall}
 use Rattle.lapin_types.specs.declared.event.Event.{Event}
 use Rattle.lapin_types.specs.declared.event.Event.TheVariants as event
 use Rattle.lapin_types.specs.declared.record.Record.TheVariants as record_
@@ -22,11 +24,12 @@ use Rattle.lapin_verdicts.specs.Verdicts.{at_place, messages_in}
 use Rattle.lapin_verdicts.proofs.Assembly.{in_run}
 use Rattle.lapin_verdicts.proofs.Numbering.{place-more}
 use Rattle.lapin_verdicts.proofs.Whole.{messages-append}
-use Rattle.lapin_clients.specs.Calls.{Publish}
-use Rattle.lapin_clients.specs.Joined.{IsJoined, IsRun, machine_to, as_dealt, dealt, dealt_in, AreNumbered, IsNumbered}
+use Rattle.lapin_clients.specs.Calls.{Ask, Publish}
+use Rattle.lapin_clients.specs.Joined.{IsJoined, IsRun, machine_to, as_dealt, dealt, dealt_in, AreNumbered, IsMade, IsNumbered}
 use Rattle.lapin_clients.specs.Nets.{Net, Act, Calls, Does, IsNewNet, Leads}
+use Rattle.lapin_clients.proofs.Ended.{new_quiet, run_quiet}
 use Rattle.lapin_clients.proofs.Fewer.{alive_before}
-use Rattle.lapin_clients.proofs.Going.{deals, deals_append, GoesOn, two_joined}
+use Rattle.lapin_clients.proofs.Going.{deals, deals_append, GoesOn, one_joined, two_joined}
 use Rattle.lapin_clients.proofs.Requests.{run_append}
 use Rattle.lapin_clients.proofs.Runs.{act_goes, new_joined}
 use Rattle.lapin_clients.proofs.Told.{deeds_are, told_is}
@@ -67,9 +70,9 @@ next_place [] more m = refl
 next_place (x ∷ ms) more m = next_place ms more m
 
 -- the record of a publish that was accepted gives the next number
-module _ (c : ℕ) (exchange key : List ℕ) (mandatory : Bool) (payload : List ℕ) (p : Properties) where
+module _ (c : ℕ) (exchange key : List ℕ) (options : BasicPublishOptions) (payload properties : List ℕ) where
   abbrev message : Message
-  message = record { exchange = exchange; routing_key = key; mandatory = mandatory; immediate = false; properties = p; payload = payload }
+  message = record { exchange = exchange; routing_key = key; mandatory = options.mandatory; immediate = options.immediate; properties = carrying properties; payload = payload }
 
   number_given : (b : Bool) (w : Wire) (t k : ℕ) → cond b (record_.Publish (w.tickets + 1) (w.published + 1)) (record_.Refused (error.InvalidChannelState (state_of c w))) ≡ record_.Publish t k → k ≡ w.published + 1
   number_given true w t k h = (let e : w.published + 1 ≡ k = cc in sym e)
@@ -77,7 +80,7 @@ module _ (c : ℕ) (exchange key : List ℕ) (mandatory : Bool) (payload : List 
 
   module _ (n : ℕ) (big : 8 < n) (ss : List Step) (t k : ℕ) where
     abbrev e : Event
-    e = publishing c exchange key mandatory payload p
+    e = publishing c exchange key options payload properties
 
     abbrev longer : List Step
     longer = ss ++ step.Client e ∷ step.Client (event.AsideTicket t) ∷ []
@@ -93,6 +96,23 @@ module _ (c : ℕ) (exchange key : List ℕ) (mandatory : Bool) (payload : List 
         ∙ (append-nil (messages_in (h ++ (e, rec n h e) ∷ [])) ∙ (messages-append h ((e, rec n h e) ∷ []) ∙ ap (λ r. messages_in h ++ messages_in ((e, r) ∷ [])) told))) in
         ap (at_place k) all ∙ (ap (λ i. at_place i (messages_in h ++ message ∷ [])) place ∙ next_place (messages_in h) [] message)
 
+-- ---- its ticket
+
+-- a call that was given a ticket stands in the history, whatever comes behind it
+made_there : (n : ℕ) (ss behind : List Step) (channel : ℕ) (call : SessionCall) (t : ℕ) → rec n (joined_to n ss).session (event.Call channel call) ≡ record_.Ticket t → IsMade channel call t (joined_to n ((ss ++ step.Client (event.Call channel call) ∷ []) ++ behind)).session
+made_there n ss behind channel call t told =
+    let e : Event = event.Call channel call in
+    let h : History = (joined_to n ss).session in
+    let longer : List Step = ss ++ step.Client e ∷ [] in
+    let one : (joined_to n longer).session ≡ h ++ (e, record_.Ticket t) ∷ [] =
+    ap (λ (j : Joint History). j.session) (run_append (by_history n) ss (step.Client e ∷ []) (new_joint [] n)) ∙ ap (λ r. h ++ (e, r) ∷ []) told in
+    let g = grown_run n behind (joined_to n longer) in
+    record {
+      before = h;
+      behind = g.0;
+      all = ap (λ (j : Joint History). j.session) (run_append (by_history n) longer behind (new_joint [] n)) ∙ (g.1 ∙ (ap (λ v. v ++ g.0) one ∙ append_assoc h ((e, record_.Ticket t) ∷ []) g.0));
+    }
+
 -- ---- one act, behind these steps
 
 at_run : (n : ℕ) (pre ss : List Step) → run by_machine ss (machine_to n pre) ≡ machine_to n (pre ++ ss)
@@ -102,28 +122,37 @@ record One (n : ℕ) (a : Act) (y : Net) (pre : List Step) : Type 0 where
   steps : List Step
   joined : IsJoined n y (machine_to n (pre ++ steps))
   dealt_is : deals steps (machine_to n pre) ≡ dealt_in a
-  numbered : (behind : List Step) → IsNumbered a (messages_in (joined_to n ((pre ++ steps) ++ behind)).session)
+  numbered : (behind : List Step) → IsNumbered a (joined_to n ((pre ++ steps) ++ behind)).session
 
 module _ (n : ℕ) (big : 8 < n) (pre : List Step) (x y : Net) (sound : Sound (machine_to n pre)) (is : IsJoined n x (machine_to n pre)) where
-  plain : (a : Act) → ((ms : List Message) → IsNumbered a ms) → Does a x y → 0 < y.client.left → One n a y pre
+  plain : (a : Act) → ((h : History) → IsNumbered a h) → Does a x y → 0 < y.client.left → One n a y pre
   plain a none h alive =
-      let g : GoesOn n (dealt_in a) y (machine_to n pre) = act_goes n x y (machine_to n pre) sound is a h alive in
-      record { steps = g.steps; joined = subst (IsJoined n y) (at_run n pre g.steps) g.joined; dealt_is = g.dealt_is; numbered = λ behind. none (messages_in (joined_to n ((pre ++ g.steps) ++ behind)).session) }
+      let g : GoesOn n (dealt_in a) y (machine_to n pre) = act_goes n x y (machine_to n pre) sound is (run_quiet pre (new_joint (new_world n) n) (new_quiet n)) a h alive in
+      record { steps = g.steps; joined = subst (IsJoined n y) (at_run n pre g.steps) g.joined; dealt_is = g.dealt_is; numbered = λ behind. none (joined_to n ((pre ++ g.steps) ++ behind)).session }
 
   one_act : (a : Act) → Does a x y → 0 < y.client.left → One n a y pre
-  one_act (Calls (Publish channel exchange key mandatory payload properties (Ok k))) h alive =
-      let p : Properties = h.0.0.0.0 in
-      let t : ℕ = h.0.0.0.2.0 in
-      let e : Event = publishing channel exchange key mandatory payload p in
+  one_act (Calls (Publish channel exchange key options payload properties (Ok k))) h alive =
+      let t : ℕ = h.0.0.1.0.0 in
+      let e : Event = publishing channel exchange key options payload properties in
       let both : List Step = step.Client e ∷ step.Client (event.AsideTicket t) ∷ [] in
-      let told : rec n (joined_to n pre).session e ≡ record_.Publish t k = sym (told_is n pre e) ∙ (ap (λ w. told_by w e) (sym is.session) ∙ h.0.0.0.2.1) in
+      let told : rec n (joined_to n pre).session e ≡ record_.Publish t k = sym (told_is n pre e) ∙ (ap (λ w. told_by w e) (sym is.session) ∙ h.0.0.1.0.1) in
       record {
         steps = both;
-        joined = subst (IsJoined n y) (at_run n pre both) (two_joined n x y (machine_to n pre) is (record { broker = h.1; up = h.2; down = h.3 }) e (event.AsideTicket t) refl refl h.0.0.1 h.0.0.0.2.2);
+        joined = subst (IsJoined n y) (at_run n pre both) (two_joined n x y (machine_to n pre) is (record { broker = h.1; up = h.2; down = h.3; besides = h.4 }) e (event.AsideTicket t) refl refl h.0.0.1.2 h.0.0.1.0.2);
         dealt_is = refl;
-        numbered = λ behind. (p, h.0.0.0.1, still_there n (pre ++ both) behind k (message channel exchange key mandatory payload p) (accepted channel exchange key mandatory payload p n big pre t k told));
+        numbered = λ behind. still_there n (pre ++ both) behind k (message channel exchange key options payload properties) (accepted channel exchange key options payload properties n big pre t k told);
       }
-  one_act a h alive = plain a (λ ms. tt) h alive
+  one_act (Calls (Ask channel octets (Ok t))) h alive =
+      let call : SessionCall = h.0.0.1.0 in
+      let e : Event = event.Call channel call in
+      let told : rec n (joined_to n pre).session e ≡ record_.Ticket t = sym (told_is n pre e) ∙ (ap (λ w. told_by w e) (sym is.session) ∙ h.0.0.1.2.0) in
+      record {
+        steps = step.Client e ∷ [];
+        joined = subst (IsJoined n y) (at_run n pre (step.Client e ∷ [])) (one_joined n x y (machine_to n pre) is (record { broker = h.1; up = h.2; down = h.3; besides = h.4 }) e refl h.0.0.1.2.3 h.0.0.1.2.1);
+        dealt_is = refl;
+        numbered = λ behind. (call, h.0.0.1.1, made_there n pre behind channel call t told);
+      }
+  one_act a h alive = plain a (λ v. tt) h alive
 
 -- ---- all acts
 
@@ -131,7 +160,7 @@ record Whole (n : ℕ) (as_ : List Act) (z : Net) (pre : List Step) : Type 0 whe
   steps : List Step
   joined : IsJoined n z (machine_to n (pre ++ steps))
   dealt_is : deals steps (machine_to n pre) ≡ dealt as_
-  numbered : AreNumbered as_ (messages_in (joined_to n (pre ++ steps)).session)
+  numbered : AreNumbered as_ (joined_to n (pre ++ steps)).session
 
 whole_goes : (n : ℕ) → 8 < n → (as_ : List Act) (pre : List Step) (x z : Net) → Sound (machine_to n pre) → IsJoined n x (machine_to n pre) → Leads as_ x z → 0 < z.client.left → Whole n as_ z pre
 unfolding Leads
@@ -151,7 +180,7 @@ whole_goes n big (a ∷ more) pre x z sound is h alive =
       joined = subst (λ ss. IsJoined n z (machine_to n ss)) place rest.joined;
       dealt_is = deals_append one.steps rest.steps (machine_to n pre)
           ∙ (ap (λ xs. xs ++ deals rest.steps (run by_machine one.steps (machine_to n pre))) one.dealt_is ∙ ap (λ xs. dealt_in a ++ xs) (ap (deals rest.steps) (at_run n pre one.steps) ∙ rest.dealt_is));
-      numbered = (subst (λ ss. IsNumbered a (messages_in (joined_to n ss).session)) place (one.numbered rest.steps), subst (λ ss. AreNumbered more (messages_in (joined_to n ss).session)) place rest.numbered);
+      numbered = (subst (λ ss. IsNumbered a (joined_to n ss).session) place (one.numbered rest.steps), subst (λ ss. AreNumbered more (joined_to n ss).session) place rest.numbered);
     }
 
 -- ---- from a new client on

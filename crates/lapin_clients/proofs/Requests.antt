@@ -1,10 +1,9 @@
 -- Frame requests of a client, as steps of a joined run: what they hand out stands on the link up, and its octets behind those that leave.
-use Rattle.std.proofs.Common.{◌≡◌, ℕ, zero, suc, ◌+◌, ◌≤◌, Bool, List, [], ◌∷◌, ◌++◌, length, Option, Some, None, refl, sym, ap, subst, ◌∙◌}
+use Rattle.std.proofs.Common.{◌≡◌, ℕ, zero, suc, ◌≤◌, Bool, List, [], ◌∷◌, ◌++◌, length, Option, Some, None, refl, sym, ap, subst, ◌∙◌}
 use Rattle.std.proofs.lemmas.List.{append_assoc, append-nil}
 use Rattle.lapin_types.specs.declared.event.Event.TheVariants as event
 use Rattle.lapin_types.specs.declared.leaving.Left.{Left}
 use Rattle.lapin_types.specs.declared.record.Record.TheVariants as record_
-use Rattle.lapin_types.specs.Types.{Frame}
 use Rattle.lapin_frames.specs.Frames.{bytes_of}
 use Rattle.lapin_rules.specs.Handing.{frame_record, handed}
 use Rattle.lapin_joint.specs.declared.step.Step.{Step}
@@ -16,8 +15,10 @@ use Rattle.lapin_machine.specs.Way.{Way, by_machine}
 use Rattle.lapin_machine.specs.World.{World, told_by, full_in}
 use Rattle.lapin_machine.proofs.Back.{told_none, still_none}
 use Rattle.lapin_client.specs.Sending.{after_requests, bytes_handed, record_bytes, AllWithin, RecordFits, AllFit as AllFitOut, HeldFits, held_bytes}
-use Rattle.lapin_clients.specs.Joined.{held_frames}
+use Rattle.lapin_clients.specs.Joined.{hearing, held_frames}
 use Rattle.lapin_clients.specs.Pieces.{Piece, Of, Beat, Notice, octets_in, octets_of, frames_in, frames_left, AllFit}
+use Rattle.lapin_clients.proofs.Deaf.{event_less}
+use Rattle.lapin_clients.proofs.Strays.{HearsLess, hears_same, less_then}
 
 pub run_append : {S : Type 0} (m : Way S) (ss ts : List Step) (j : Joint S) → run m (ss ++ ts) j ≡ run m ts (run m ss j)
 run_append m [] ts j = refl
@@ -53,6 +54,11 @@ asks_run (suc n) flow j =
 pub asks_quiet : (n : ℕ) (flow : Bool) (j : Joint World) → along by_machine deed_in (asks n flow) j ≡ []
 asks_quiet zero flow j = refl
 asks_quiet (suc n) flow j = along_append by_machine deed_in (asks n flow) (step.Client (event.Next flow) ∷ []) j ∙ ap (λ (ds : List Deed). ds ++ []) (asks_quiet n flow j)
+
+-- and no more contents are heard
+pub asks_less : (n : ℕ) (flow : Bool) (w : World) → HearsLess (hearing w) (hearing (after_requests n flow w))
+asks_less zero flow w = hears_same (hearing w)
+asks_less (suc n) flow w = less_then (hearing w) (hearing (after_requests n flow w)) (hearing (after_requests (suc n) flow w)) (asks_less n flow w) (event_less (after_requests n flow w) (event.Next flow) refl)
 
 -- ---- as octets
 

@@ -1,4 +1,5 @@
 pub mod Pieces
+pub mod Strays
 pub mod Calls
 pub mod Nets
 pub mod Joined

@@ -2,8 +2,10 @@
 -- which may be cut at any place.
 --
 -- The broker is the free broker of `lapin_broker` behind the exact reader and writer of `lapin_frames`. Besides, either side sends
--- heartbeats, and the broker says whether it takes messages. A run is up to the loss: what comes behind it is the session's alone.
-use Rattle.std.specs.Prelude.{◌≡◌, ◌≤◌, ℕ, true, List, [], ◌∷◌, ◌++◌, drop, Some}
+-- heartbeats, the broker says whether it takes messages, and it may send contents behind a close. A run is up to the loss: what
+-- comes behind it is the session's alone.
+use Rattle.std.specs.Prelude.{◌≡◌, ◌≤◌, ℕ, suc, true, List, [], ◌∷◌, ◌++◌, drop, Some}
+use Rattle.lapin_types.specs.Types.{Frame}
 use Rattle.lapin_broker.specs.States.{Broker, new_broker}
 use Rattle.lapin_broker.specs.Reads.{read}
 use Rattle.lapin_broker.specs.Sends.{may, send}
@@ -17,13 +19,16 @@ use Rattle.lapin_client.specs.Clients.{IsNew, IsSent}
 use Rattle.lapin_client.specs.Receiving.{Receives}
 use Rattle.lapin_clients.specs.Calls.{Call, IsCall}
 use Rattle.lapin_clients.specs.Pieces.{Piece, Of, Beat, Notice, octets_in, Fits}
+use Rattle.lapin_clients.specs.Strays.{may_stray}
 
--- a client, a broker, the octets on their way up to it, and those on their way down
+-- a client, a broker, the octets on their way up to it, and those on their way down; and how many frames the broker sent besides those of the
+-- free broker
 pub record Net : Type 0 where
   pub client : Client
   pub broker : Broker
   pub up : List ℕ
   pub down : List ℕ
+  pub besides : ℕ
 
 -- a new client, as `new` makes it of a greatest frame that it takes, and a new broker
 pub record IsNewNet (frame_max : ℕ) (x : Net) : Type 0 where
@@ -32,6 +37,7 @@ pub record IsNewNet (frame_max : ℕ) (x : Net) : Type 0 where
   pub broker : x.broker ≡ new_broker frame_max
   pub up : x.up ≡ []
   pub down : x.down ≡ []
+  pub besides : x.besides ≡ 0
 
 -- what happens, one thing after another
 pub data Act : Type 0 where
@@ -47,6 +53,8 @@ pub data Act : Type 0 where
   Reads : (piece : Piece) → Act
   -- the broker sends a piece
   Sends : (piece : Piece) → Act
+  -- the broker sends a frame of a content on a channel that isn't open to it
+  Strays : (frame : Frame) → Act
 
 -- of these octets those that were handed to the client: none where it had no memory to keep them
 abbrev pub kept_by : Status → List ℕ → List ℕ
@@ -65,12 +73,14 @@ IsSentBy most (Of f) b b' = (may b f ≡ true) × (b' ≡ send b f) × Fits most
 IsSentBy most p b b' = (b' ≡ b) × Fits most p
 
 abbrev pub Does : Act → Net → Net → Type 0
-Does (Calls call) x y = IsCall call x.client y.client × (y.broker ≡ x.broker) × (y.up ≡ x.up) × (y.down ≡ x.down)
-Does Leaves x y = IsSent x.client y.client × (y.broker ≡ x.broker) × (y.up ≡ x.up ++ x.client.leaving.items) × (y.down ≡ x.down)
-Does Beats x y = (x.client.leaving.items ≡ []) × (y.client ≡ x.client) × (y.broker ≡ x.broker) × (y.up ≡ x.up ++ around 8 0 []) × (y.down ≡ x.down)
-Does (Comes octets s) x y = Receives s octets x.client y.client × (y.broker ≡ x.broker) × (y.up ≡ x.up) × (x.down ≡ kept_by s octets ++ y.down)
-Does (Reads p) x y = IsRead p x y × (y.client ≡ x.client) × (y.down ≡ x.down)
-Does (Sends p) x y = IsSentBy x.client.frame_max p x.broker y.broker × (y.client ≡ x.client) × (y.up ≡ x.up) × (y.down ≡ x.down ++ octets_in p)
+Does (Calls call) x y = IsCall call x.client y.client × (y.broker ≡ x.broker) × (y.up ≡ x.up) × (y.down ≡ x.down) × (y.besides ≡ x.besides)
+Does Leaves x y = IsSent x.client y.client × (y.broker ≡ x.broker) × (y.up ≡ x.up ++ x.client.leaving.items) × (y.down ≡ x.down) × (y.besides ≡ x.besides)
+Does Beats x y = (x.client.leaving.items ≡ []) × (y.client ≡ x.client) × (y.broker ≡ x.broker) × (y.up ≡ x.up ++ around 8 0 []) × (y.down ≡ x.down) × (y.besides ≡ x.besides)
+Does (Comes octets s) x y = Receives s octets x.client y.client × (y.broker ≡ x.broker) × (y.up ≡ x.up) × (x.down ≡ kept_by s octets ++ y.down) × (y.besides ≡ x.besides)
+Does (Reads p) x y = IsRead p x y × (y.client ≡ x.client) × (y.down ≡ x.down) × (y.besides ≡ x.besides)
+Does (Sends p) x y = IsSentBy x.client.frame_max p x.broker y.broker × (y.client ≡ x.client) × (y.up ≡ x.up) × (y.down ≡ x.down ++ octets_in p) × (y.besides ≡ x.besides)
+Does (Strays f) x y =
+    ((may_stray x.broker f ≡ true) × Fits x.client.frame_max (Of f)) × (y.client ≡ x.client) × (y.broker ≡ x.broker) × (y.up ≡ x.up) × (y.down ≡ x.down ++ octets_in (Of f)) × (y.besides ≡ suc x.besides)
 
 -- these acts lead from one to the other
 unfoldable pub Leads : List Act → Net → Net → Type 0

@@ -4,6 +4,7 @@ use Rattle.std.specs.Prelude.{◌≡◌, ◌≤◌, ℕ, Bool, List, [], ◌∷�
 use Rattle.lapin_types.specs.declared.leaving.Left.{Left}
 use Rattle.lapin_types.specs.Types.{Frame}
 use Rattle.lapin_fields.specs.Around.{around}
+use Rattle.lapin_frames.specs.Carried.{IsCarried, frame_again}
 use Rattle.lapin_frames.specs.FrameFits.{FrameFits}
 use Rattle.lapin_frames.specs.Frames.{bytes_of}
 use Rattle.lapin_frames.specs.FrameReading.{read_at}
@@ -57,8 +58,18 @@ pub record ArePieces (most : ℕ) (octets : List ℕ) (frames : List Frame) : Ty
 abbrev pub frames_left : List Left → List Frame
 frames_left ls = map (λ (l : Left). l.frame) ls
 
--- Octets that are pieces, cut anywhere: if a frame stands whole at the head of those that came, it is the first piece, and what is left of what
--- came, with what is still to come, are the others.
+-- each of the frames is as octets give it
+abbrev pub AreCarried : List Frame → Type 0
+AreCarried [] = Unit {0}
+AreCarried (f ∷ fs) = IsCarried f × AreCarried fs
+
+-- Octets that are pieces, cut anywhere: if a frame stands whole at the head of those that came, it is the first piece, as it is read again, and what
+-- is left of what came, with what is still to come, are the others.
 abbrev pub AreReadAsWritten : ℕ → Type 0
 AreReadAsWritten most = (came behind : List ℕ) (pieces : List Piece) (f : Frame) (n : ℕ) → AllFit most pieces → came ++ behind ≡ octets_of pieces → read_at came ≡ Some (head.Frame f n) →
-    (others : List Piece) × (pieces ≡ Of f ∷ others) × (drop n came ++ behind ≡ octets_of others)
+    (g : Frame) × (others : List Piece) × (frame_again g ≡ f) × (pieces ≡ Of g ∷ others) × (drop n came ++ behind ≡ octets_of others)
+
+-- What is read again of a frame: it has the same octets and can be written, and it is carried; and a carried frame is itself. So octets tell a
+-- frame but for whether its table and its properties were given by their values.
+abbrev pub IsReadAgain : Type 0
+IsReadAgain = (f : Frame) → (bytes_of (frame_again f) ≡ bytes_of f) × (FrameFits f → FrameFits (frame_again f)) × IsCarried (frame_again f) × (IsCarried f → frame_again f ≡ f)
