@@ -1,12 +1,12 @@
 -- The box that a pointer holds, and what a call passes for its type and its allocator. Assumes `Logic`.
-use Rattle.std.proofs.Common.{List, [], ◌∷◌}
+use Rattle.std.proofs.Common.{[], ◌∷◌}
 use mir.Syntax.{Dict, impl, tnil, tcons, dnil}
 use denote.RattleType.{RattleType}
 use mir.Raw.{raw as bare}
 use mathlib.Core.Path.{refl}
 use denote.Exit.{no}
 use denote.Param.{layout, arg}
-use denote.Param.Laws.{Laws, arg_laws}
+use denote.Param.Laws.{arg_laws}
 use Rattle.std_heap.specs.contracts.Global as heap
 use Rattle.std_heap.proofs.Global.TheLaws as heap_laws
 use Rattle.std_heap.specs.contracts.GlobalAllocator.TheImpl as heap_impl

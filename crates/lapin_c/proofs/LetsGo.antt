@@ -1,5 +1,5 @@
 -- The glue of what a pointer holds: its own drop. Assumes `Logic`.
-use Rattle.std.proofs.Common.{List, [], ◌∷◌, refl}
+use Rattle.std.proofs.Common.{[], refl}
 use seplogic.Ra.Ura.{Ura}
 use mir.Syntax.{method}
 use prog.Model.{Model}

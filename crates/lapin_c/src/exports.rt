@@ -1,17 +1,21 @@
 //! The exports of a session: each takes the client out of its handle, makes one call of it, and puts it back.
 
 ghost use Rattle.std.specs.Prelude.{◌≡◌, false, length, None};
-ghost use Rattle.lapin_client.specs.Calls.{Published, OutcomeTold, Delivered, Settled, Forgotten, fate_call};
+ghost use Rattle.lapin_client.specs.Calls.{Published, OutcomeTold, Settled, Forgotten, fate_call};
+ghost use Rattle.lapin_client.specs.Replies.{Delivered};
 ghost use Rattle.lapin_client.specs.declared.calls.Fate.TheVariants as fates;
-ghost use Rattle.lapin_client.specs.Clients.{Answers};
 ghost use Rattle.lapin_client.specs.Closes.{TellsClose};
-ghost use Rattle.lapin_client.specs.Counts.{ForgetCounts, LineCounts, OutcomeCounts, PollCounts, PublishCounts, SettleCounts};
+ghost use Rattle.lapin_client.specs.Counts.{OneWhereDone, OutcomeCounts, PollCounts, PublishCounts, SettleCounts};
 ghost use Rattle.lapin_client.specs.Receiving.{Receives};
 ghost use Rattle.lapin_client.specs.Sending.{Sends};
-ghost use Rattle.lapin_c.specs.Behind.{Behind, Coded, Gave, Opened, Read, Taken, blocked_of, octets_of};
+ghost use Rattle.lapin_client.specs.Answers.{answer_of};
+ghost use Rattle.lapin_client.specs.Parcels.{Read};
+ghost use Rattle.lapin_c.specs.Behind.{Behind, Coded, Gave, Opened, Stands, Taken, Why, blocked_of, octets_of};
 
+use crate::calls::number_of;
 use crate::handle::{Handle, put, take};
-use lapin_client::{Client, CloseReason, Fate, Message, Status};
+use lapin_client::{Client, CloseReason, Fate, Message, Refusal, States, Status, copy_out};
+use lapin_types::BasicPublishOptions;
 use std::alloc::Global;
 
 /// Puts a client of a new session into a handle. Where there is a client in it already, that one is given up.
@@ -43,30 +47,15 @@ pub extern "C" fn lapin_close(alloc: Global, handle: &mut Handle)
     drop(take(alloc, handle));
 }
 
-/// Takes a line, without its line end. The line of its record is the answer.
-#[unsafe(no_mangle)]
-pub extern "C" fn lapin_line(alloc: Global, handle: &mut Handle, line: &[u8]) -> u32
-    ensures { Behind (λ c d. Coded result (λ s. Answers s line.now c d × LineCounts s c d)) (result ≡ 7) handle.old.pointer.held handle.new.pointer.held }
-{
-    match take(alloc, handle) {
-        Some(mut client) => {
-            let status = client.take_line(alloc, line);
-            put(handle, client);
-            status.code()
-        }
-        None => Status::Closed.code(),
-    }
-}
-
-/// The number of bytes of the last answer.
+/// The number of bytes of the answer.
 #[unsafe(no_mangle)]
 pub extern "C" fn lapin_answer_length(alloc: Global, handle: &mut Handle) -> usize
-    ensures length { result ≡ length (octets_of (λ c. c.answer.items) handle.old.pointer.held) }
+    ensures length { result ≡ length (octets_of (λ c. answer_of c) handle.old.pointer.held) }
     ensures same { handle.new.pointer.held ≡ handle.old.pointer.held }
 {
     match take(alloc, handle) {
         Some(client) => {
-            let length = client.answer.len();
+            let length = client.answer_length();
             put(handle, client);
             length
         }
@@ -74,15 +63,15 @@ pub extern "C" fn lapin_answer_length(alloc: Global, handle: &mut Handle) -> usi
     }
 }
 
-/// The last answer, where there is room for all of it. How many bytes were written.
+/// The answer, where there is room for all of it. How many bytes were written.
 #[unsafe(no_mangle)]
 pub extern "C" fn lapin_answer(alloc: Global, handle: &mut Handle, out: &mut [u8]) -> usize
-    ensures read { Read result (octets_of (λ c. c.answer.items) handle.old.pointer.held) out.old out.new }
+    ensures read { Read result (octets_of (λ c. answer_of c) handle.old.pointer.held) out.old out.new }
     ensures same { handle.new.pointer.held ≡ handle.old.pointer.held }
 {
     match take(alloc, handle) {
         Some(client) => {
-            let written = copy_out(out, &client.answer);
+            let written = client.copy_answer(out);
             put(handle, client);
             written
         }
@@ -90,7 +79,7 @@ pub extern "C" fn lapin_answer(alloc: Global, handle: &mut Handle, out: &mut [u8
     }
 }
 
-/// Publishes. The properties stand in the text of lines, as `[delivery_mode=2]`. The number of its confirm is written where it was done.
+/// Publishes. The properties are a list as a content header has it. The number of its confirm is written where it was done.
 #[unsafe(no_mangle)]
 pub extern "C" fn lapin_publish(
     alloc: Global,
@@ -99,45 +88,44 @@ pub extern "C" fn lapin_publish(
     exchange: &[u8],
     routing_key: &[u8],
     mandatory: bool,
+    immediate: bool,
     payload: &[u8],
     properties: &[u8],
     confirm: &mut u64,
 ) -> u32
-    ensures { Behind (λ c d. Gave result confirm.old confirm.new (λ r. Published r channel exchange.now routing_key.now mandatory payload.now properties.now c d × PublishCounts r c d)) ((result ≡ 7) × (confirm.new ≡ confirm.old)) handle.old.pointer.held handle.new.pointer.held }
+    ensures { Behind (λ c d. Gave result confirm.old confirm.new (λ r. Published r channel exchange.now routing_key.now (record { mandatory = mandatory; immediate = immediate }) payload.now properties.now c d × PublishCounts r c d)) ((result ≡ 7) × (confirm.new ≡ confirm.old)) handle.old.pointer.held handle.new.pointer.held }
 {
     match take(alloc, handle) {
         Some(mut client) => {
+            let options = BasicPublishOptions {
+                mandatory,
+                immediate,
+            };
             let done = client.publish(
                 alloc,
                 channel,
                 exchange,
                 routing_key,
-                mandatory,
+                options,
                 payload,
                 properties,
             );
             put(handle, client);
-            match done {
-                Ok(number) => {
-                    *confirm = number;
-                    Status::Done.code()
-                }
-                Err(status) => status.code(),
-            }
+            number_of(done, confirm)
         }
         None => Status::Closed.code(),
     }
 }
 
-/// The outcome of a publish that didn't come back: 1 an ack, 2 a nack, 3 none was asked for, 4 an error, whose line is the answer, 5 an error
-/// for whose line there was no memory; 0 where there is none yet, or where the line of its poll tells more.
+/// The outcome of a publish that didn't come back: 1 an ack, 2 a nack, 3 none was asked for, 4 an error, which `lapin_why` says; 0 where there is
+/// none yet, or where its message came back, so that `lapin_confirmed` tells more.
 #[unsafe(no_mangle)]
 pub extern "C" fn lapin_outcome(alloc: Global, handle: &mut Handle, confirm: u64) -> u32
     ensures { Behind (λ c d. OutcomeTold result confirm c d × OutcomeCounts result c d) (result ≡ 0) handle.old.pointer.held handle.new.pointer.held }
 {
     match take(alloc, handle) {
         Some(mut client) => {
-            let outcome = client.outcome(alloc, confirm);
+            let outcome = client.outcome(confirm);
             put(handle, client);
             outcome
         }
@@ -148,7 +136,7 @@ pub extern "C" fn lapin_outcome(alloc: Global, handle: &mut Handle, confirm: u64
 /// The confirm will not be asked for any more.
 #[unsafe(no_mangle)]
 pub extern "C" fn lapin_forget(alloc: Global, handle: &mut Handle, confirm: u64) -> u32
-    ensures { Behind (λ c d. Coded result (λ s. Forgotten s confirm c d × ForgetCounts s c d)) (result ≡ 7) handle.old.pointer.held handle.new.pointer.held }
+    ensures { Behind (λ c d. Coded result (λ s. Forgotten s confirm c d × OneWhereDone s c d)) (result ≡ 7) handle.old.pointer.held handle.new.pointer.held }
 {
     match take(alloc, handle) {
         Some(mut client) => {
@@ -160,8 +148,8 @@ pub extern "C" fn lapin_forget(alloc: Global, handle: &mut Handle, confirm: u64)
     }
 }
 
-/// What a consumer was handed next: its numbers and lengths are written, and its exchange, its routing key, the text of its properties and
-/// its body are the answer, one behind the other.
+/// What a consumer was handed next: its numbers and lengths are written, and its exchange, its routing key, its list of properties and its body
+/// are the answer, one behind the other.
 #[unsafe(no_mangle)]
 pub extern "C" fn lapin_delivery(
     alloc: Global,
@@ -236,6 +224,49 @@ pub extern "C" fn lapin_reject(alloc: Global, handle: &mut Handle, acker: u64, r
     ensures { Behind (λ c d. Coded result (λ s. Settled s acker (fate_call fates.Reject false requeue) c d × SettleCounts s c d)) (result ≡ 7) handle.old.pointer.held handle.new.pointer.held }
 {
     settle(alloc, handle, acker, Fate::Reject, false, requeue)
+}
+
+/// Why the session refused something last, or the last error that a reply, an outcome or a delivery was.
+#[unsafe(no_mangle)]
+pub extern "C" fn lapin_why(alloc: Global, handle: &mut Handle, refusal: &mut Refusal) -> u32
+    ensures told { Why result refusal.old refusal.new handle.old.pointer.held }
+    ensures same { handle.new.pointer.held ≡ handle.old.pointer.held }
+{
+    match take(alloc, handle) {
+        Some(client) => {
+            let told = client.why();
+            put(handle, client);
+            match told {
+                Some(found) => {
+                    *refusal = found;
+                    Status::Done.code()
+                }
+                None => Status::Pending.code(),
+            }
+        }
+        None => Status::Closed.code(),
+    }
+}
+
+/// The states of the connection and of a channel.
+#[unsafe(no_mangle)]
+pub extern "C" fn lapin_state(
+    alloc: Global,
+    handle: &mut Handle,
+    channel: u16,
+    states: &mut States,
+) -> u32
+    ensures told { Stands result channel states.old states.new handle.old.pointer.held }
+    ensures same { handle.new.pointer.held ≡ handle.old.pointer.held }
+{
+    match take(alloc, handle) {
+        Some(client) => {
+            *states = client.states(channel);
+            put(handle, client);
+            Status::Done.code()
+        }
+        None => Status::Closed.code(),
+    }
 }
 
 /// The frames that may leave, as bytes: until there is none, or until there are so many bytes; and then what is left of a begun publish,
@@ -347,16 +378,4 @@ pub extern "C" fn lapin_last_close(
         }
         None => Status::Closed.code(),
     }
-}
-
-/// The bytes at the beginning of the room, where they fit into it.
-pub(crate) fn copy_out(out: &mut [u8], bytes: &[u8]) -> usize
-    ensures { Read result bytes.now out.old out.new }
-{
-    let count = bytes.len();
-    if out.len() < count {
-        return 0;
-    }
-    out[..count].copy_from_slice(bytes);
-    count
 }

@@ -2,16 +2,18 @@
 
 ghost use Rattle.std.specs.Prelude.{◌≡◌};
 ghost use Rattle.lapin_handshake.specs.Beats.{beat_at};
-ghost use Rattle.lapin_c.specs.Openings.{stage_of as stage_of_lem, number_of as number_of_lem, handshake_of as handshake_of_lem, opening_of as opening_of_lem, fault_number, IsBeat, IsTold, Shakes};
+ghost use Rattle.lapin_c.specs.Openings.{stage_of as stage_of_lem, number_of as number_of_lem, mechanism_of as mechanism_of_lem, word_number, handshake_of as handshake_of_lem, opening_of as opening_of_lem, fault_number, GavePlace, IsBeat, IsTold, Shakes};
 
-use crate::exports::copy_out;
-use lapin_client::Status;
-use lapin_fields::WriteFault;
-use lapin_handshake::{Beat, Clock, Handshake, Limits, Shaken, Stage, shake};
+use lapin_client::{Status, copy_out};
+use lapin_fields::ReadFault;
+use lapin_handshake::{
+    Beat, Caller, Clock, Handshake, Limits, Mechanism, Place, Shaken, Stage, Unsaid,
+    properties_place, shake,
+};
 use std::alloc::Global;
 
 /// An opening: what is waited for, 0 for `connection.start`, 1 for `connection.tune`, 2 for `connection.open-ok`, 3 where the connection
-/// is open and else where it was refused; and the limits.
+/// is open and else where it was refused; the limits; and the mechanism, 0 for PLAIN, 1 for AMQPLAIN and else EXTERNAL.
 #[derive(Clone, Copy, Debug, PartialEq, Eq)]
 #[repr(C)]
 pub struct Opening {
@@ -19,6 +21,7 @@ pub struct Opening {
     pub frame_max: u32,
     pub channel_max: u16,
     pub heartbeat: u16,
+    pub mechanism: u32,
 }
 
 fn stage_of(number: u32) -> Stage
@@ -45,11 +48,32 @@ fn number_of(stage: Stage) -> u32
     }
 }
 
+fn mechanism_of(number: u32) -> Mechanism
+    ensures { result ≡ mechanism_of_lem number }
+{
+    match number {
+        0 => Mechanism::Plain,
+        1 => Mechanism::AmqPlain,
+        _ => Mechanism::External,
+    }
+}
+
+fn number_of_mechanism(mechanism: Mechanism) -> u32
+    ensures { result ≡ word_number mechanism }
+{
+    match mechanism {
+        Mechanism::Plain => 0,
+        Mechanism::AmqPlain => 1,
+        Mechanism::External => 2,
+    }
+}
+
 fn handshake_of(opening: Opening) -> Handshake
     ensures { result ≡ handshake_of_lem opening }
 {
     Handshake {
         stage: stage_of(opening.stage),
+        mechanism: mechanism_of(opening.mechanism),
         limits: Limits {
             channel_max: opening.channel_max,
             frame_max: opening.frame_max,
@@ -66,12 +90,13 @@ fn opening_of(handshake: Handshake) -> Opening
         frame_max: handshake.limits.frame_max,
         channel_max: handshake.limits.channel_max,
         heartbeat: handshake.limits.heartbeat,
+        mechanism: number_of_mechanism(handshake.mechanism),
     }
 }
 
 /// Takes the frame at the head of the bytes of the broker, and writes what is answered to it, and how many bytes that is. Done: the frame
 /// was read. Pending: it isn't there whole yet. Refused: the connection isn't opened, and the code says why. Where there is no room for the
-/// reply, nothing is done.
+/// reply, nothing is done; nor where the pairs can't be told, which is looked at first, also where there are no bytes.
 #[unsafe(no_mangle)]
 pub extern "C" fn lapin_shake(
     alloc: Global,
@@ -80,24 +105,23 @@ pub extern "C" fn lapin_shake(
     user: &[u8],
     password: &[u8],
     vhost: &[u8],
+    pairs: &[u8],
     out: &mut [u8],
     written: &mut usize,
     code: &mut u16,
 ) -> u32
-    ensures { Shakes result bytes.now user.now password.now vhost.now opening.old opening.new out.old out.new written.new code.old code.new }
+    ensures { Shakes result bytes.now (record { user = user.now; password = password.now; vhost = vhost.now; pairs = pairs.now }) opening.old opening.new out.old out.new written.new code.old code.new }
 {
     let mut handshake = handshake_of(*opening);
-    let mut reply = Vec::new(alloc);
-    *written = 0;
-    let shaken = match shake(
-        alloc,
-        &mut handshake,
-        bytes,
+    let caller = Caller {
         user,
         password,
         vhost,
-        &mut reply,
-    ) {
+        pairs,
+    };
+    let mut reply = Vec::new(alloc);
+    *written = 0;
+    let shaken = match shake(alloc, &mut handshake, bytes, &caller, &mut reply) {
         Ok(shaken) => shaken,
         Err(fault) => return number_of_fault(fault),
     };
@@ -123,14 +147,28 @@ fn told(shaken: Shaken, code: &mut u16) -> u32
     }
 }
 
-fn number_of_fault(fault: WriteFault) -> u32
+fn number_of_fault(fault: Unsaid) -> u32
     ensures { result ≡ fault_number fault }
 {
     match fault {
-        WriteFault::NoMemory => Status::NoMemory.code(),
-        WriteFault::TooLong | WriteFault::TooDeep | WriteFault::AboveLimit => {
-            Status::NotInGrammar.code()
+        Unsaid::NoMemory => Status::NoMemory.code(),
+        Unsaid::TooLong | Unsaid::NotPairs => Status::NotInGrammar.code(),
+    }
+}
+
+/// Where the broker's own properties stand in the start whose frame stands at the head of the bytes. Done, and the place is written; or not
+/// in the grammar: no start stands there whole; or no memory.
+#[unsafe(no_mangle)]
+pub extern "C" fn lapin_server_properties(bytes: &[u8], place: &mut Place) -> u32
+    ensures { GavePlace result bytes.now place.old place.new }
+{
+    match properties_place(bytes) {
+        Ok(found) => {
+            *place = found;
+            Status::Done.code()
         }
+        Err(ReadFault::Malformed) => Status::NotInGrammar.code(),
+        Err(ReadFault::NoMemory) => Status::NoMemory.code(),
     }
 }
 

@@ -1,7 +1,8 @@
 use Rattle.std.proofs.Common.{◌≡◌, subst, refl, inl, inr, Ok, Err}
 use Rattle.lapin_client.specs.declared.client.Client.{Client}
-use Rattle.lapin_client.specs.Calls.{Delivered}
 use Rattle.lapin_client.specs.Counts.{PollCounts}
+use Rattle.lapin_client.specs.declared.message.Message.{Message}
+use Rattle.lapin_client.specs.Replies.{Delivered}
 use Rattle.lapin_c.specs.Behind.{Gave}
 use Rattle.lapin_c.proofs.BehindLaws.{behind_some}
 use Rattle.lapin_c.proofs.exports.lapin_delivery.Goals as goal
@@ -14,4 +15,4 @@ returns-in-Ok c =
 pub returns-in-Err : goal.returns-in-Err
 returns-in-Err c =
     behind_some (λ (b d : Client). Gave c.code-in-Err.result c.args.message.now c.args.message.now (λ r. Delivered r c.args.consumer b d × PollCounts r b d)) ((c.code-in-Err.result ≡ 7) × (c.args.message.now ≡ c.args.message.now)) c.args.handle.now.pointer.held c.put.new.handle.pointer.held c.in-Some.client.value c.delivery-handed.new.self c.in-Some.ensures.value c.put.ensures
-    (inr (c.in-Err.status, c.code-in-Err.ensures, refl, subst (λ (b : Client). Delivered (Err c.in-Err.status) c.args.consumer b c.delivery-handed.new.self × PollCounts (Err c.in-Err.status) b c.delivery-handed.new.self) c.deref_mut.ensures.value (c.in-Err.ensures.told, c.in-Err.ensures.count)))
+    (inr (c.in-Err.status, c.code-in-Err.ensures, refl, subst (λ (b : Client). Delivered (Err c.in-Err.status) c.args.consumer b c.delivery-handed.new.self × PollCounts {A = Message} (Err c.in-Err.status) b c.delivery-handed.new.self) c.deref_mut.ensures.value (c.in-Err.ensures.told, c.in-Err.ensures.count)))

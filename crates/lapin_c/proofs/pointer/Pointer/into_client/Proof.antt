@@ -10,7 +10,7 @@ use base.Fraction.{full_share}
 use contract.BorrowLft.{◌⊑◌, ⊑_static}
 use prog.Wp.{WpFn}
 use types.Logic.{sem}
-use types.Kit.{‵, raw, ◌⊛◌, some, later, at_ret, ◌$◌, ◌∵◌, !, qed, by, move, keep, drop, split, split3, join, fsplit, fsplit3, fjoin, pick, suffices, use0, use1, await, rewrite, feq_i}
+use types.Kit.{‵, raw, ◌⊛◌, some, later, at_ret, ◌$◌, ◌∵◌, !, qed, by, move, keep, drop, split, split3, join, fsplit3, fjoin, pick, suffices, use0, use1, await, rewrite, feq_i}
 use types.Run.{stop, fld, of_opd, no_more, and_then, first, blocks, exec, returns, enter}
 use types.ByLocal.{alloc_all, pass_all, free_all, look_at, get, get_in, sets, lands_last, is as is_at, env}
 use types.Part.{sub, whole}
@@ -20,17 +20,16 @@ use contract.Running.{tables}
 use denote.Exit.{yes}
 use denote.RattleType.{RattleType, owns}
 use denote.Signature.{types_at, plain}
-use denote.RawPtr.{Ptr, block_ptr, null_ptr, ptr_val, in_a_block}
+use denote.RawPtr.{Ptr, block_ptr, null_ptr, in_a_block}
 use denote.Param.{layout}
 use denote.Param.NoDrop
-use denote.Laws.{Is, shows}
-use denote.Steps.{nothing, only, heard, peeks}
+use denote.Steps.{nothing, only, heard}
 use denote.Triple.Spec.{triple_of}
 use denote.Triple.Call.{calls_at_last}
 use denote.Triple.Clauses.{Lasts, lasts}
 use denote.Triple.Table.{framed}
 use denote.Triple.Walked.{Stays, stay_dropped, walk_of, Goes-dropped}
-use Rattle.std.proofs.alloc.Calls.{Goes-blank, handle_tells}
+use Rattle.std.proofs.alloc.Calls.{handle_tells}
 use Rattle.std.proofs.alloc.Shapes.{after}
 use Rattle.std_alloc.specs.Box.Ownership.{box_owns}
 use Rattle.std_alloc.proofs.BoxSteps.Form as box
@@ -39,7 +38,7 @@ use Rattle.std_heap.proofs.GlobalAllocator.TheImpl.Met as heap_met
 use Rattle.std.proofs.raw_atomic.Walks.{proved_at, leaves}
 use Rattle.lapin_c.specs.Held.{held_owns}
 use Rattle.lapin_c.proofs.PointerSteps.{Row, word, pointer_out}
-use Rattle.lapin_c.proofs.HeldBox.{X, Z, E, Boxed, drops_handle}
+use Rattle.lapin_c.proofs.HeldBox.{X, Z, E, drops_handle}
 use Rattle.std_heap.specs.contracts.Global as heap
 use Rattle.std_heap.specs.contracts.GlobalAllocator.TheImpl as heap_impl
 use Rattle.std_alloc.specs.contracts.boxed.Box.from_raw as callee
