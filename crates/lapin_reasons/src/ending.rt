@@ -3,7 +3,7 @@ ghost use Rattle.std.specs.Prelude.{◌≡◌, [], IfOk};
 ghost use Rattle.lapin_inputs.specs.declared.status.Status.TheVariants as status_;
 
 use crate::lines::{Bad, Kind, first_bad};
-use crate::telling::{put, put_stumble};
+use crate::telling::{SHOWN, put, put_quoted, put_stumble};
 use lapin_inputs::Status;
 use lapin_scalars::put_number;
 use lapin_types::NoMemory;
@@ -37,6 +37,7 @@ fn told(
     let mut text = Vec::new(alloc);
     put(&mut text, "lapin: ")?;
     match status {
+        Status::BadWords => put_bad_words(&mut text, words)?,
         Status::BadLine => put_bad_line(alloc, &mut text, words, input)?,
         status => put(&mut text, reason(status))?,
     }
@@ -48,9 +49,7 @@ fn told(
 fn reason(status: Status) -> &'static str {
     match status {
         Status::Fine => "all is well",
-        Status::BadWords => {
-            "the words behind the program's name are no command; docs/FORMAT.md lists them, as `session`"
-        }
+        Status::BadWords => "the words behind the program's name are no command",
         Status::BadLine => {
             "a line is not in the format of docs/FORMAT.md; the last line of the output has its number"
         }
@@ -59,6 +58,50 @@ fn reason(status: Status) -> &'static str {
         Status::WriteFault =>
             "standard output could not be written; it has the beginning of the text",
         Status::InputTooLong => "the input is longer than 16777216 bytes",
+    }
+}
+
+// What is wrong with the words behind the program's name, and what tells more.
+fn put_bad_words(text: &mut Vec<u8>, words: &[String]) -> Result<(), AllocError> {
+    let Some(word) = command_word(words) else {
+        return put(
+            text,
+            "no command is given, or a word is not UTF-8; --help lists the commands",
+        );
+    };
+    match wanted_behind(word) {
+        Some(wanted) => {
+            put(text, "behind ")?;
+            put(text, word)?;
+            put(text, wanted)?;
+            put(text, "; --help ")?;
+            put(text, word)?;
+            put(text, " says more")
+        }
+        None => {
+            put_quoted(text, word.as_bytes(), SHOWN)?;
+            put(text, " is no command; --help lists the commands")
+        }
+    }
+}
+
+// The word that should be a command: the first, or behind `--help` the second.
+fn command_word(words: &[String]) -> Option<&str> {
+    match words {
+        [help, word, ..] if help.as_str() == "--help" => Some(word.as_str()),
+        [word, ..] => Some(word.as_str()),
+        [] => None,
+    }
+}
+
+// What should stand behind the word of a command.
+fn wanted_behind(word: &str) -> Option<&'static str> {
+    match word {
+        "session" | "joined" | "check" | "resend" => Some(" no other word stands"),
+        "call" => Some(" one word stands, a queue of 1 to 255 bytes"),
+        "generate" => Some(" one number stands, from 1 to 10000"),
+        "shared" | "pool" => Some(" one number stands, from 1 to 64"),
+        _ => None,
     }
 }
 
@@ -84,12 +127,12 @@ fn put_bad_line(
     input: &[u8],
 ) -> Result<(), AllocError> {
     match first_bad(alloc, kind_of(words), input) {
-        Some(bad) => put_bad(text, &bad),
+        Some(bad) => put_bad(alloc, text, &bad),
         None => put(text, reason(Status::BadLine)),
     }
 }
 
-fn put_bad(text: &mut Vec<u8>, bad: &Bad) -> Result<(), AllocError> {
+fn put_bad(alloc: Global, text: &mut Vec<u8>, bad: &Bad) -> Result<(), AllocError> {
     put(text, "line ")?;
     put_number(text, bad.number)?;
     put(text, ": ")?;
@@ -102,7 +145,7 @@ fn put_bad(text: &mut Vec<u8>, bad: &Bad) -> Result<(), AllocError> {
         )?;
     } else {
         match &bad.stumble {
-            Some(stumble) => put_stumble(text, stumble)?,
+            Some(stumble) => put_stumble(alloc, text, stumble)?,
             None => put(text, "it is not in the format of docs/FORMAT.md")?,
         }
     }

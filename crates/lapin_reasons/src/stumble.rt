@@ -38,9 +38,14 @@ pub(crate) fn step_stumble<'a>(alloc: Global, line: &'a [u8]) -> Option<Stumble<
     let mut walk = Walk::new(line);
     let found = walk.next();
     match found {
-        Some(b"client") => whole(alloc, &mut walk),
+        Some(b"client") => {
+            walk.is_led_by("client");
+            whole(alloc, &mut walk)
+        }
         Some(b"send") => whole_frame(alloc, &mut walk, "send"),
-        Some(b"read" | b"deliver" | b"lose") => walk.end(),
+        Some(b"read") => whole_row(alloc, &mut walk, "read", ""),
+        Some(b"deliver") => whole_row(alloc, &mut walk, "deliver", ""),
+        Some(b"lose") => whole_row(alloc, &mut walk, "lose", ""),
         _ => Some(walk.stumble(
             found,
             "",
@@ -68,7 +73,10 @@ pub(crate) fn resend_stumble<'a>(alloc: Global, line: &'a [u8]) -> Option<Stumbl
         Some(b"submit") => whole_row(alloc, &mut walk, "submit", MESSAGE),
         Some(b"status") => whole_row(alloc, &mut walk, "status", "number:wide"),
         Some(b"send") => whole_frame(alloc, &mut walk, "send"),
-        Some(b"next" | b"read" | b"deliver" | b"lose") => walk.end(),
+        Some(b"next") => whole_row(alloc, &mut walk, "next", ""),
+        Some(b"read") => whole_row(alloc, &mut walk, "read", ""),
+        Some(b"deliver") => whole_row(alloc, &mut walk, "deliver", ""),
+        Some(b"lose") => whole_row(alloc, &mut walk, "lose", ""),
         _ => Some(walk.stumble(
             found,
             "",
@@ -86,7 +94,8 @@ pub(crate) fn call_stumble<'a>(alloc: Global, line: &'a [u8]) -> Option<Stumble<
         Some(b"recv") => whole_frame(alloc, &mut walk, "recv"),
         Some(b"ask") => whole_row(alloc, &mut walk, "ask", MESSAGE),
         Some(b"take") => whole_row(alloc, &mut walk, "take", "number:wide"),
-        Some(b"lost" | b"collect") => walk.end(),
+        Some(b"lost") => whole_row(alloc, &mut walk, "lost", ""),
+        Some(b"collect") => whole_row(alloc, &mut walk, "collect", ""),
         _ => Some(walk.stumble(
             found,
             "",
@@ -96,8 +105,8 @@ pub(crate) fn call_stumble<'a>(alloc: Global, line: &'a [u8]) -> Option<Stumble<
 }
 
 // The rest of a line should be a frame, and nothing more.
-fn whole_frame<'a>(alloc: Global, walk: &mut Walk<'a>, head: &'static str) -> Option<Stumble<'a>> {
-    walk.is_a(head, "");
+fn whole_frame<'a>(alloc: Global, walk: &mut Walk<'a>, lead: &'static str) -> Option<Stumble<'a>> {
+    walk.is_led_by(lead);
     match frame(alloc, walk) {
         Some(stumble) => Some(stumble),
         None => walk.end(),
@@ -137,7 +146,11 @@ fn event<'a>(alloc: Global, walk: &mut Walk<'a>) -> Option<Stumble<'a>> {
             call(alloc, walk)
         }
         Word::Recv => {
-            walk.is_a("recv", "");
+            walk.is_led_by(if walk.lead().is_empty() {
+                "recv"
+            } else {
+                "client recv"
+            });
             frame(alloc, walk)
         }
         Word::Acker => {

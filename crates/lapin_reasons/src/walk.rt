@@ -31,7 +31,9 @@ pub(crate) struct Stumble<'a> {
     pub field: &'static str,
     /// What is wanted.
     pub wanted: Wanted,
-    /// How lines of this kind begin.
+    /// The words that lead a line of this kind, where its own fields don't begin it, or nothing.
+    pub lead: &'static str,
+    /// How the rest begins.
     pub head: &'static str,
     /// The name of the method that the line is about, or nothing.
     pub name: &'a [u8],
@@ -44,6 +46,7 @@ pub(crate) struct Stumble<'a> {
 pub(crate) struct Walk<'a> {
     tokens: Tokens<'a>,
     place: u64,
+    lead: &'static str,
     head: &'static str,
     name: &'a [u8],
     row: &'static str,
@@ -55,10 +58,21 @@ impl<'a> Walk<'a> {
         Walk {
             tokens: Tokens::new(line),
             place: 0,
+            lead: "",
             head: "",
             name: b"",
             row: "",
         }
+    }
+
+    /// The line is led by these words, and what is looked at from here on stands behind them.
+    pub(crate) fn is_led_by(&mut self, lead: &'static str) {
+        self.lead = lead;
+    }
+
+    /// What leads the line, or nothing.
+    pub(crate) fn lead(&self) -> &'static str {
+        self.lead
     }
 
     /// The line is one of those that begin so, with these fields behind.
@@ -91,6 +105,7 @@ impl<'a> Walk<'a> {
             found,
             field,
             wanted,
+            lead: self.lead,
             head: self.head,
             name: self.name,
             row: self.row,
