@@ -1,7 +1,8 @@
 #!/usr/bin/env python3
 """Links the shared object from the proved archive: library.py OUT.so
 
-The archive is made first, and only where `lapin_c` is proved: by `rt lib`, or, where the gate ran in this checkout and left the libraries that
+With `library.py --object OUT.o` it is one object in the place of that, of which the names of lapin.h alone are global: c/Makefile makes a shared
+and a static library of it. The archive is made first, and only where `lapin_c` is proved: by `rt lib`, or, where the gate ran in this checkout and left the libraries that
 it proved, over those.
 """
 import hashlib
@@ -93,7 +94,8 @@ def version_object(folder, proof):
     return built
 
 
-def make(out):
+def archive():
+    """Makes the proved archive."""
     names = crates()
     libraries = below(names)
     os.makedirs(f"{CRATE}/out", exist_ok=True)
@@ -102,6 +104,10 @@ def make(out):
     said = ran(over_the_gates(names, libraries) if is_of_the_gate(libraries) else ["rt", "lib"])
     if said or not os.path.exists(ARCHIVE):
         sys.exit(f"{said[-4000:]}\nlapin_c did not build")
+
+
+def make(out):
+    archive()
     with tempfile.TemporaryDirectory() as folder:
         script = f"{folder}/exports"
         with open(script, "w", encoding="utf-8") as file:
@@ -110,7 +116,22 @@ def make(out):
                         "-Wl,--no-whole-archive", f"{kit()}/c/liblibc_c.a", "-Wl,--gc-sections", f"-Wl,--version-script={script}"], check=True)
 
 
+def joined(out, objects):
+    """One object of several, of which the names of lapin.h alone are global."""
+    subprocess.run(["ld", "-r", "-o", out, *objects], check=True)
+    subprocess.run(["objcopy", "-w", "--keep-global-symbol=lapin_*", out], check=True)
+
+
+def make_object(out):
+    archive()
+    with tempfile.TemporaryDirectory() as folder:
+        joined(out, [version_object(folder, "proved"), "--whole-archive", ARCHIVE, "--no-whole-archive", f"{kit()}/c/liblibc_c.a"])
+
+
 if __name__ == "__main__":
-    if len(sys.argv) != 2:
+    if len(sys.argv) == 3 and sys.argv[1] == "--object":
+        make_object(os.path.abspath(sys.argv[2]))
+    elif len(sys.argv) == 2:
+        make(os.path.abspath(sys.argv[1]))
+    else:
         sys.exit(__doc__)
-    make(os.path.abspath(sys.argv[1]))

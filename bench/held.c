@@ -4,7 +4,6 @@
  * left behind. Everything that comes from the broker is written here; there is no socket. bench/held.py builds and runs it.
  */
 #include <malloc.h>
-#include <stdarg.h>
 #include <stdio.h>
 #include <stdlib.h>
 #include <string.h>
@@ -15,7 +14,7 @@ static lapin_handle session;
 static unsigned char leaving[1 << 17];
 static unsigned char coming[1 << 10];
 static size_t came;
-static uint64_t tickets; /* the ticket that the last call gave */
+static uint64_t ticket; /* that the last call gave */
 
 static void die(const char *what, unsigned status) {
     fprintf(stderr, "held: %s: status %u\n", what, status);
@@ -24,22 +23,12 @@ static void die(const char *what, unsigned status) {
 
 /* ---- this side */
 
-static void say(const char *form, ...) {
-    char line[256];
-    va_list values;
-    va_start(values, form);
-    int length = vsnprintf(line, sizeof line, form, values);
-    va_end(values);
-    uint32_t status = lapin_line(&session, line, (size_t)length);
-    if (status != LAPIN_DONE) die(line, status);
-    char answer[64] = "";
-    if (lapin_answer_length(&session) < sizeof answer) {
-        answer[lapin_answer(&session, answer, sizeof answer - 1)] = 0;
-        unsigned long long number;
-        if (sscanf(answer, "ticket %llu", &number) == 1) tickets = number;
-        if (strncmp(answer, "refused", 7) == 0) die(answer, 1);
-    }
+/* Makes the call of a method. */
+static void make(int channel, const char *octets, size_t length) {
+    uint32_t status = lapin_call(&session, (uint16_t)channel, octets, length, &ticket);
+    if (status != LAPIN_DONE) die("call", status);
 }
+#define MAKE(channel, octets) make(channel, octets, sizeof octets - 1)
 
 static void leave(void) {
     uint32_t status = lapin_send(&session, true, 1 << 16);
@@ -47,16 +36,21 @@ static void leave(void) {
     lapin_leaving(&session, leaving, sizeof leaving);
 }
 
-static uint64_t publish(bool mandatory) {
+static uint64_t publish_on(uint16_t channel, bool mandatory) {
     uint64_t confirm;
-    uint32_t status = lapin_publish(&session, 1, "", 0, "q", 1, mandatory, "hello", 5, "[]", 2, &confirm);
+    uint32_t status = lapin_publish(&session, channel, "", 0, "q", 1, mandatory, false, "hello", 5, "\0", 2, &confirm);
     if (status != LAPIN_DONE) die("publish", status);
     leave();
     return confirm;
 }
+static uint64_t publish(bool mandatory) { return publish_on(1, mandatory); }
 
-/* A call with its reply: the ticket is polled as the reply is there. */
-static void ask(void) { say("ticket %llu", (unsigned long long)tickets); }
+/* The reply of the last call, which is there. */
+static void ask(void) {
+    lapin_fields fields;
+    uint32_t status = lapin_reply(&session, ticket, &fields);
+    if (status != LAPIN_DONE) die("reply", status);
+}
 
 /* ---- the broker's side */
 
@@ -90,10 +84,11 @@ static void arrive(void) {
     if (status != LAPIN_DONE) die("receive", status);
     came = 0;
 }
-static void settle(uint64_t tag, bool ack) {
-    size_t head = method(1, 60, ack ? 80 : 120);
+static void settle_on(int channel, uint64_t tag, bool ack) {
+    size_t head = method(channel, 60, ack ? 80 : 120);
     number(tag, 8), number(0, 1), end(head), arrive();
 }
+static void settle(uint64_t tag, bool ack) { settle_on(1, tag, ack); }
 static void reply(int channel, int class_id, int method_id, const char *name, int zeros) {
     size_t head = method(channel, class_id, method_id);
     if (name) text(name);
@@ -118,26 +113,43 @@ static void outcome(uint64_t confirm, uint32_t wanted) {
     if (told != wanted) die("outcome", told);
 }
 
+static void open_channel(int channel) {
+    MAKE(channel, "\0\x14\0\x0a\0"), leave(), reply(channel, 20, 11, NULL, 4), ask();
+}
+static void select_confirms(int channel) {
+    MAKE(channel, "\0\x55\0\x0a\0"), leave(), reply(channel, 85, 11, NULL, 0), ask();
+}
+
 /* ---- the ways of use: one turn each, the number of the turn from 1 */
 
 static void publish_asked(uint64_t turn) { uint64_t confirm = publish(false); settle(turn, true), outcome(confirm, LAPIN_ACK); }
 static void publish_nacked(uint64_t turn) { uint64_t confirm = publish(false); settle(turn, false), outcome(confirm, LAPIN_NACK); }
 static void publish_never_asked(uint64_t turn) { publish(false), settle(turn, true); }
+static void publish_in_turn(uint64_t turn, uint64_t channels) {
+    int channel = (int)((turn - 1) % channels + 1);
+    if (turn > 1 && turn <= channels) open_channel(channel), select_confirms(channel);
+    publish_on((uint16_t)channel, false), settle_on(channel, (turn - 1) / channels + 1, true);
+}
+static void publish_on_two_channels(uint64_t turn) { publish_in_turn(turn, 2); }
+static void publish_on_many_channels(uint64_t turn) { publish_in_turn(turn, 100); }
 static void publish_unconfirmed(uint64_t turn) { (void)turn, publish(false); }
 static void publish_unconfirmed_forgotten(uint64_t turn) { (void)turn, lapin_forget(&session, publish(false)); }
 static void publish_forgotten_before(uint64_t turn) { lapin_forget(&session, publish(false)), settle(turn, true); }
 static void publish_forgotten_after(uint64_t turn) { uint64_t confirm = publish(false); settle(turn, true), lapin_forget(&session, confirm); }
 static void publish_waited(uint64_t turn) {
     publish_forgotten_before(turn);
-    if (turn % 1000 == 0) say("wait 1");
+    uint64_t count;
+    if (turn % 1000 == 0 && lapin_unclaimed(&session, 1, &count) != LAPIN_DONE) die("unclaimed", 1);
 }
 static void publish_behind_the_oldest(uint64_t turn) {
     uint64_t confirm = publish(false);
     if (turn > 1) settle(turn, true), outcome(confirm, LAPIN_ACK);
 }
 static void publish_returned(uint64_t turn) {
-    uint64_t confirm = publish(true);
-    returned(), settle(turn, true), say("confirm %llu", (unsigned long long)confirm);
+    uint64_t confirm = publish(true), told;
+    lapin_return found;
+    returned(), settle(turn, true);
+    if (lapin_confirmed(&session, confirm, &told) != LAPIN_DONE || lapin_return_at(&session, 0, &found) != LAPIN_DONE) die("confirmed", 1);
 }
 static void delivery_acked(uint64_t turn) {
     delivery(turn);
@@ -150,7 +162,9 @@ static void delivery_behind_the_oldest(uint64_t turn) {
     else delivery_acked(turn);
 }
 static void got(uint64_t turn, bool no_ack) {
-    say("call 1 basic.get x71 %d", no_ack), leave();
+    if (no_ack) MAKE(1, "\0\x3c\0\x46\0\0\1q\1");
+    else MAKE(1, "\0\x3c\0\x46\0\0\1q\0");
+    leave();
     size_t head = method(1, 60, 71);
     number(turn, 8), number(0, 1), text(""), text("q"), number(0, 4), end(head), content("hello"), arrive(), ask();
 }
@@ -158,24 +172,22 @@ static void get_without_ack(uint64_t turn) { got(turn, true); }
 static void get_acked(uint64_t turn) {
     got(turn, false);
     if (lapin_ack(&session, turn, false) != LAPIN_DONE) die("ack", 1);
-    leave(), tickets++;
+    leave();
 }
 static void call(uint64_t turn) {
     (void)turn;
-    say("call 1 queue.declare x71 0 0 0 0 0 {}"), leave(), reply(1, 50, 11, "q", 8), ask();
+    MAKE(1, "\0\x32\0\x0a\0\0\1q\0\0\0\0\0"), leave(), reply(1, 50, 11, "q", 8), ask();
 }
 static void channel(uint64_t turn) {
     (void)turn;
-    say("call 2 channel.open"), leave(), reply(2, 20, 11, NULL, 4), ask();
-    say("call 2 channel.close 200 x"), leave(), reply(2, 20, 41, NULL, 0), ask();
+    MAKE(2, "\0\x14\0\x0a\0"), leave(), reply(2, 20, 11, NULL, 4), ask();
+    MAKE(2, "\0\x14\0\x28\0\xc8\0\0\0\0\0"), leave(), reply(2, 20, 41, NULL, 0), ask();
 }
-static void consume(void) { say("call 1 basic.consume x71 x75 0 0 0 0 {}"), leave(), reply(1, 60, 21, "u", 0), ask(); }
-static void consumer_dropped(uint64_t turn) {
-    consume(), say("drop %llu", (unsigned long long)(turn + 1)), leave(), reply(1, 60, 31, "u", 0);
-}
+static void consume(void) { MAKE(1, "\0\x3c\0\x14\0\0\1q\1u\0\0\0\0\0"), leave(), reply(1, 60, 21, "u", 0), ask(); }
 static void consumer_cancelled(uint64_t turn) {
-    consume(), say("call 1 basic.cancel x75 0"), leave(), reply(1, 60, 31, "u", 0), ask();
-    say("consumer %llu", (unsigned long long)(turn + 1));
+    lapin_message message;
+    consume(), MAKE(1, "\0\x3c\0\x1e\1u\0"), leave(), reply(1, 60, 31, "u", 0), ask();
+    if (lapin_delivery(&session, turn + 1, &message) != LAPIN_GONE) die("a consumer's end", 1);
 }
 
 static const struct {
@@ -186,6 +198,8 @@ static const struct {
     {"publish_asked", publish_asked, "confirm"},
     {"publish_nacked", publish_nacked, "confirm"},
     {"publish_never_asked", publish_never_asked, "confirm"},
+    {"publish_on_two_channels", publish_on_two_channels, "confirm"},
+    {"publish_on_many_channels", publish_on_many_channels, "confirm"},
     {"publish_unconfirmed", publish_unconfirmed, "plain"},
     {"publish_unconfirmed_forgotten", publish_unconfirmed_forgotten, "plain"},
     {"publish_forgotten_before", publish_forgotten_before, "confirm"},
@@ -201,16 +215,17 @@ static const struct {
     {"get_acked", get_acked, "confirm"},
     {"call", call, "confirm"},
     {"channel", channel, "confirm"},
-    {"consumer_dropped", consumer_dropped, "confirm"},
     {"consumer_cancelled", consumer_cancelled, "confirm"},
 };
 
 static void begin(const char *mode) {
     if (lapin_open(&session, 131072) != LAPIN_DONE) die("open", 1);
-    say("call 1 channel.open"), leave(), reply(1, 20, 11, NULL, 4), ask();
-    if (strcmp(mode, "plain") == 0) say("call 1 tx.select"), leave(), reply(1, 90, 11, NULL, 0), ask();
-    else say("call 1 confirm.select 0"), leave(), reply(1, 85, 11, NULL, 0), ask();
-    say("call 1 basic.consume x71 x74 0 %d 0 0 {}", strcmp(mode, "noack") == 0), leave(), reply(1, 60, 21, "t", 0), ask();
+    open_channel(1);
+    if (strcmp(mode, "plain") == 0) MAKE(1, "\0\x5a\0\x0a"), leave(), reply(1, 90, 11, NULL, 0), ask();
+    else select_confirms(1);
+    if (strcmp(mode, "noack") == 0) MAKE(1, "\0\x3c\0\x14\0\0\1q\1t\2\0\0\0\0");
+    else MAKE(1, "\0\x3c\0\x14\0\0\1q\1t\0\0\0\0\0");
+    leave(), reply(1, 60, 21, "t", 0), ask();
 }
 
 static size_t heap(void) {

@@ -20,10 +20,12 @@ TOP = os.path.dirname(os.path.dirname(os.path.abspath(__file__)))
 BOUNDS = {
     "publish_asked": (0.1, "nothing"),
     "publish_nacked": (0.1, "nothing"),
-    "publish_never_asked": (72, "a cell and its channel: it may be asked at any later time, and a bit would do"),
-    "publish_unconfirmed": (72, "the same"),
+    "publish_never_asked": (1, "two bits for its outcome and two for its channel: it may be asked at any later time"),
+    "publish_on_two_channels": (12, "the same, and the channel of each second one: the bits of 64 in a row are of one channel"),
+    "publish_on_many_channels": (10, "the same, and the channel of nearly each"),
+    "publish_unconfirmed": (1, "two bits for its outcome and two for its channel"),
     "publish_unconfirmed_forgotten": (0.1, "nothing"),
-    "publish_forgotten_before": (82, "the same, and its place among those that a wait gives, until there is one"),
+    "publish_forgotten_before": (12, "the same, and its place among those that a wait gives, until there is one"),
     "publish_forgotten_after": (0.1, "nothing"),
     "publish_waited": (0.1, "nothing"),
     "publish_behind_the_oldest": (0.1, "nothing"),
@@ -36,8 +38,7 @@ BOUNDS = {
     "get_acked": (0.1, "nothing"),
     "call": (0.1, "nothing"),
     "channel": (0.1, "nothing"),
-    "consumer_dropped": (570, "its tag and queue, which are told for ever, its seat, and a promised job"),
-    "consumer_cancelled": (570, "the same"),
+    "consumer_cancelled": (570, "its tag and queue, which are told for ever, its seat, and a promised job"),
 }
 
 

@@ -240,9 +240,18 @@ def method_tables(tree, of, methods):
 RESERVED = {"short": ("short 0", "short_at"), "long": ("long 0", "long_at"), "text": ("text []", "string_at"), "string": ("counted []", "counted_at")}
 NUMBER = {"short": 2, "long": 4, "wide": 8}
 
+# Octets of a table are read as they are.
+READ = {"table": "opaque"}
+LAWS = {"table": "arguments"}
+
 
 def written(field, kind):
-    return f"{ {'table': 'table_bytes', 'reply': 'text'}.get(kind, kind)} {field}"
+    return f"{ {'table': 'arguments_bytes', 'reply': 'text'}.get(kind, kind)} {field}"
+
+
+def again(field, kind):
+    """A field as it is read once it was written: a table as its octets."""
+    return f"(opaque (table_octets {field}))" if kind == "table" else field
 
 
 def pieces(m):
@@ -260,7 +269,7 @@ def back(m):
     end = "refl"
     if m.flags:
         bits = [f"(flag_{2 ** at} {' '.join(m.flags[: at + 1])} {'(' + listed(m.flags[at + 1 :]) + ')' if m.flags[at + 1 :] else '[]'} i)" for at in range(len(m.flags))]
-        args = [field for field, _ in m.first] + bits + [field for field, _ in m.last]
+        args = [again(field, kind) for field, kind in m.first] + bits + [again(field, kind) for field, kind in m.last]
         end = f"(λ i. Some ({m.of}_method.{m.variant} {' '.join(args)}, rest))"
     rest = "rest"
     for bytes_, read in reversed(parts[1:]):
@@ -275,7 +284,7 @@ def back(m):
             if kind in NUMBER:
                 end = f"(rw (from_be_bytes-to_be_bytes_{NUMBER[kind]} {field} {fit}) {end})"
             else:
-                end = f"(then_on _ _ _ _ ({kind}_back {field} {rest} {fit}) {end})"
+                end = f"(then_on _ _ _ _ ({LAWS.get(kind, kind)}_back {field} {rest} {fit}) {end})"
         rest = f"({bytes_} ++ {rest})"
     if end == "refl":
         return "refl"
@@ -289,7 +298,7 @@ def read_line(m):
     for place, kind in enumerate(m.reserved):
         out, at = out + f"{RESERVED[kind][1]} {at} >>= λ r{place + 1}. ", f"r{place + 1}.1"
     for field, kind in m.first + ([("flags", "octet")] if m.flags else []) + m.last:
-        out, at = out + f"{kind}_at {at} >>= λ {field}. ", f"{field}.1"
+        out, at = out + f"{READ.get(kind, kind)}_at {at} >>= λ {field}. ", f"{field}.1"
     bits = [f"(bit_at {2 ** place} flags.0)" for place in range(len(m.flags))]
     args = [f"{field}.0" for field, _ in m.first] + bits + [f"{field}.0" for field, _ in m.last]
     made = f"({m.of}_method.{' '.join([m.variant] + args)})" if args else f"{m.of}_method.{m.variant}"
@@ -297,9 +306,56 @@ def read_line(m):
 
 
 def fits_line(m):
-    fit = {"text": "TextFits {0}", "reply": "TextFits {0}", "table": "TableFits {0}"}
+    fit = {"text": "TextFits {0}", "reply": "TextFits {0}", "table": "ArgumentsFit {0}"}
     parts = [fit.get(kind, f"({{0}} < 2 ^ {8 * NUMBER.get(kind, 0)})").format(field) for field, kind in m.first + m.last]
     return f"{m.of.capitalize()}Fits {m.seen(m.of + '_method.')} = {' × '.join(parts) or 'Unit {0}'}"
+
+
+def tables_in(m):
+    """The fields that are tables."""
+    return [field for field, kind in m.first + m.last if kind == "table"]
+
+
+def carried_lines(tree, of, methods):
+    """The lines of the methods that have a table: which it is, and what is read of it once it was written."""
+    having = [m for m in methods if tables_in(m)]
+    if not having:
+        return
+    path, method = "crates/lapin_frames/specs/Carried.antt", f"{of}_method."
+    seen = lambda m: m.seen(method)
+    read = lambda m: f"{method}{m.variant} " + " ".join(again(field, kind) for field, kind in m.fields())
+    tree.lines(path, rf"{of}_arguments \({method}(\w+)", [(m.variant, f"{of}_arguments {seen(m)} = Some {tables_in(m)[0]}") for m in having])
+    tree.lines(path, rf"{of}_again \({method}(\w+)", [(m.variant, f"{of}_again {seen(m)} = {read(m)}") for m in having])
+    path = "crates/lapin_frames/proofs/AgainLaws.antt"
+    same = lambda m: f"{of}_same {seen(m)} h = ap ({' '.join([method + m.variant] + m.args()[:-1])}) (table_again {m.args()[-1]} h)"
+    tree.lines(path, rf"{of}_same \({method}(\w+)", [(m.variant, same(m)) for m in having])
+    front = lambda m: " ++ ".join(bytes_ for bytes_, _ in pieces(m)[:-1])
+    ends = lambda m: f"{of}_ends {seen(m)} t e = ends_with ({front(m)}) {m.args()[-1]} t e"
+    tree.lines("crates/lapin_frames/proofs/CarriedLaws.antt", rf"{of}_ends \({method}(\w+)", [(m.variant, ends(m)) for m in having])
+
+
+def tabled_line(m):
+    """That the table of a method is the last that is read of it: step by step, each with what it takes."""
+    steps = [(f"r{place + 1}", RESERVED[kind][1][:-3]) for place, kind in enumerate(m.reserved)]
+    steps += [(field, kind) for field, kind in m.first] + ([("marks", "octet")] if m.flags else []) + [(field, kind) for field, kind in m.last]
+    tables = tables_in(m)
+    if tables:
+        bits = [f"(bit_at {2 ** place} marks.0)" for place in range(len(m.flags))]
+        args = [f"{field}.0" for field, kind in m.first if kind != "table"] + bits
+        flags = f"(flags ({listed([bit[1:-1] for bit in bits])}))"
+        long = [f"(short {m.number})"] + [f"({RESERVED[kind][0]})" for kind in m.reserved]
+        long += [f"({kind} {field}.0)" for field, kind in m.first if kind != "table"] + ([flags] if m.flags else []) + ["(arguments_bytes (opaque octets))"]
+        steps = steps[:-1]
+        at = f"{steps[-1][0]}.1"
+        out = f"last {at} ({m.of}_method.{m.variant} {' '.join(args)}) (λ t. refl) (λ octets. omega (arith, long_{len(long)} {' '.join(long)}, table_long octets))"
+    else:
+        out = "made refl"
+    for place in reversed(range(len(steps))):
+        name, kind = steps[place]
+        at = f"{steps[place - 1][0]}.1" if place else "bytes"
+        read = f"({READ.get(kind, kind)}_at {at})"
+        out = f"step {read} ({kind}_takes {at}) (λ {name}. {out})" if tables else f"past {read} (λ {name}. {out})"
+    return f"    when n == {m.number} have ({out if tables else f'none_in ({out})'}) else  -- {m.of}.{m.variant}"
 
 
 def byte_tables(tree, of, methods):
@@ -310,6 +366,9 @@ def byte_tables(tree, of, methods):
     tree.lines(f"{crate}/specs/Methods.antt", rf"{of}_bytes \(?{method}(\w+)", each(lambda m: f"{of}_bytes {m.seen(method)} = {bytes_of(m)}"))
     tree.lines(f"{crate}/specs/MethodReading.antt", rf"    if n == \d+ then \(.*?\b{method}(\w+)", each(read_line))
     tree.lines(f"{crate}/specs/FrameFits.antt", rf"{of.capitalize()}Fits \(?{method}(\w+)", each(fits_line))
+    carried_lines(tree, of, methods)
+    if any(tables_in(m) for m in methods):
+        tree.lines(f"{crate}/proofs/TableLaws.antt", rf"    when n == \d+ have .* -- {of}\.(\w+)", each(tabled_line))
     laws = {"exchange": "QueueLaws", "queue": "QueueLaws", "basic": "BasicLaws"}.get(of, "SmallClassLaws")
     path = f"{crate}/proofs/{laws}.antt"
     tree.lines(path, rf"{of}_back \(?{method}(\w+)", each(lambda m: f"{of}_back {m.seen(method)} rest fit = {back(m)}"))

@@ -3,7 +3,7 @@
 
 The rows of methods stand in `crates/lapin_frames/src/`, a file a class; what is made of them says method_rows.py. A call is its variant
 in `crates/lapin_types/src/call.rt`, its line and its reply's in the tables of `lapin_rules`, and the lines of their methods in `Frames.antt` of
-`lapin_broker`; what is made of these say method_lines.py and method_calls.py. Made here are the section "Methods" of `docs/FORMAT.md`, the rows in
+`lapin_broker`; what is made of these say method_lines.py and method_calls.py. Made here are the page `docs/METHODS.md`, the rows in
 `crates/lapin_reasons/src/rows.rt` by which a bad line is explained, and the table by which a name finds its method at once: `PLACES` of
 `kinds.rt`, with the factors of a name's slot, there and in `Slots.antt`. Proofs are among what is made: a line a method, as its form asks.
 
@@ -20,7 +20,7 @@ from method_lines import call_tables
 from method_rows import Tree, frame_tables, kinds_of, plain, rows_of
 
 TOP = os.path.dirname(os.path.dirname(os.path.abspath(__file__)))
-FORMAT, ROWS = "docs/FORMAT.md", "crates/lapin_reasons/src/rows.rt"
+PAGE, ROWS = "docs/METHODS.md", "crates/lapin_reasons/src/rows.rt"
 KINDS_FILE, SLOTS_FILE = "crates/lapin_method_text/src/kinds.rt", "crates/lapin_method_text/specs/Slots.antt"
 
 # A slot in the code: its factors, and the size of the table.
@@ -38,14 +38,14 @@ def called(tree):
     return names | {"basic.publish", "channel.close", "connection.close"}
 
 
-def in_format(tree):
-    """The section of the format."""
+def in_page(tree):
+    """The page of methods."""
     calls = called(tree)
     lines = [
-        "## Methods",
+        "# Methods",
         "",
-        "Each method with its fields, as they follow its name. A method marked with a star is one that a caller may call; a `recv method` may have",
-        "any. This table is made from the code's own by `bench/method_tables.py`.",
+        "Each method with its fields, as they follow its name in a line ([FORMAT.md](FORMAT.md)). A method marked with a star is one that a caller may",
+        "call; a `recv method` may have any. Made from the code's own tables by `bench/method_tables.py`, and not to be edited by hand.",
         "",
         "| Method | Fields |",
         "|---|---|",
@@ -54,7 +54,7 @@ def in_format(tree):
         told = ", ".join(f"{field} {KINDS[kind]}" for field, kind in m.fields()) or "none"
         star = " \\*" if m.name() in calls else ""
         lines.append(f"| `{m.name()}`{star} | {told} |")
-    return "\n".join(lines) + "\n\n"
+    return "\n".join(lines) + "\n"
 
 
 def in_rows(tree):
@@ -141,8 +141,7 @@ def tables(tree):
     frame_tables(tree)
     lines = call_tables(tree)
     own_tables(tree)
-    text = tree.read(FORMAT)
-    tree.new[FORMAT] = text[: text.index("## Methods\n")] + in_format(tree) + text[text.index("## Input\n") :]
+    tree.new[PAGE] = in_page(tree)
     tree.new[ROWS] = in_rows(tree) if plain(ROWS, in_rows(tree)) != plain(ROWS, tree.read(ROWS)) else tree.read(ROWS)
     names = [m.name() for rows in rows_of(tree).values() for m in rows]
     factors = factors_for(names, tuple(int(one) for one in re.search(SLOT, tree.read(KINDS_FILE)).groups()))

@@ -247,6 +247,14 @@ def unpolled(count, polled_from):
             yield f"ticket {number + 2}"
 
 
+def unasked(count, channels=1):
+    """Publishes in turn over the channels, each settled, whose outcomes nobody asks for."""
+    yield from opened(channels)
+    for number in range(count):
+        yield from publish(number % channels + 1)
+        yield f"recv method {number % channels + 1} basic.ack {number // channels + 1} 0"
+
+
 def acked(count):
     """Deliveries for one consumer, each polled and acked, and the ticket of the ack polled."""
     number = 0
@@ -307,6 +315,9 @@ WORKLOADS = [
     ("publish and confirm, empty", lambda n: published(n), 2_000, 20_000),
     ("publish and confirm, 100 bytes", lambda n: published(n, length=100), 2_000, 10_000),
     ("publish and confirm, 5,000 bytes", lambda n: published(n, length=5_000), 200, 1_000),
+    ("publish and ack, empty, never asked for", unasked, 2_000, 20_000),
+    ("publish and ack on two channels in turn, never asked for", lambda n: unasked(n, channels=2), 2_000, 20_000),
+    ("publish and ack on 100 channels in turn, never asked for", lambda n: unasked(n, channels=100), 2_000, 20_000),
     ("window of 1,000 outstanding", lambda n: published(n, window=1_000), 2_000, 20_000),
     ("publish and confirm on 1,000 channels", lambda n: published(n, channels=1_000), 2_000, 20_000),
     ("publishes held, then sent", held, 2_000, 20_000),

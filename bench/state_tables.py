@@ -1,11 +1,10 @@
 #!/usr/bin/env python3
-"""The tables of states in docs/RULES.md against the definitions, and their drawings.
+"""The tables of states in docs/RULES.md against the definitions.
 
 Each row of a table says: from a state, by a happening, to a state. Each is looked up in `after` or `link_after` of
-crates/lapin_rules/specs/Moves.antt, which the code is proved to follow. A row that says otherwise is told, and the status is 1. With
---write the drawings below the tables are made anew from the rows; without, a drawing that isn't what the rows give is told too.
+crates/lapin_rules/specs/Moves.antt, which the code is proved to follow. A row that says otherwise is told, and the status is 1.
 
-    bench/state_tables.py [--write]
+    bench/state_tables.py
 """
 import os
 import re
@@ -84,33 +83,11 @@ def wrong(table, name, states):
     return told
 
 
-def drawing(table, states):
-    """The rows as a drawing."""
-    lines = ["```mermaid", "stateDiagram-v2"]
-    for start, by, to in table:
-        for state in [part.strip() for part in ([start] if start in states else start.split(","))]:
-            origins = ["open", "closing", "closed"] if state == "any" else [state.split(",")[0]]
-            when = ", " + state.split(", ")[1] if ", " in state else ""
-            for origin in origins:
-                lines.append(f"    {origin} --> {to}: {by.replace('`', '')}{when}")
-    return "\n".join(lines + ["```"])
-
-
 def main():
-    text = open(RULES, encoding="utf-8").read()
-    tables = rows(text)
+    tables = rows(open(RULES, encoding="utf-8").read())
     told = []
     for table, name, states in zip(tables, ["link_after", "after"], [CONNECTION, CHANNEL]):
         told += wrong(table, name, states)
-        end = "| " + " | ".join(table[-1]) + " |\n"
-        place = text.index(end, text.index("| " + " | ".join(table[0]) + " |")) + len(end)
-        rest = re.sub(r"^\n```mermaid\n.*?\n```\n", "", text[place:], flags=re.S)
-        drawn = text[:place] + "\n" + drawing(table, states) + "\n" + rest
-        if drawn != text and "--write" not in sys.argv:
-            told.append(f"the drawing of {name} isn't what its rows give: run with --write")
-        text = drawn
-    if "--write" in sys.argv:
-        open(RULES, "w", encoding="utf-8").write(text)
     print("\n".join(told) or f"{sum(len(table) for table in tables)} rows, each as the definitions say")
     sys.exit(1 if told else 0)
 
