@@ -11,14 +11,10 @@
 #include <string.h>
 
 #include "lapin.h"
+#include "octets.h"
 
-/* Octets with their number; behind them stands a zero. */
-typedef struct {
-    const char *at;
-    size_t length;
-} lapin_octets;
-
-/* A message that came back, and why, as the broker says it. The properties are in the text of lines. */
+/* A message that came back, and why, as the broker says it. The properties are a list, as lapin_read_properties takes it; behind each of the others
+ * stands a zero. */
 typedef struct {
     uint16_t code;
     lapin_octets text, exchange, routing_key, properties, body;
@@ -39,7 +35,7 @@ typedef struct lapin_kept {
 typedef struct {
     uint64_t confirm;
     lapin_kept *kept;
-    char *error; /* the line of LAPIN_ERROR */
+    lapin_refusal *error; /* why, of LAPIN_ERROR */
     uint16_t channel;
     uint8_t outcome;
     bool is_told, is_aside; /* nobody will ask for it */
@@ -89,10 +85,6 @@ static inline uint64_t lapin_hash_of(const lapin_publications *p, const lapin_re
     uint64_t found = lapin_hash(p->keys[0], p->keys[1], message->exchange);
     found = lapin_hash(p->keys[0], found, message->routing_key);
     return lapin_hash(p->keys[0], found, message->body);
-}
-
-static inline bool lapin_equal(lapin_octets one, lapin_octets other) {
-    return one.length == other.length && (!one.length || !memcmp(one.at, other.at, one.length));
 }
 
 static inline void lapin_chain(lapin_publications *p, lapin_kept *kept) {
@@ -175,6 +167,15 @@ static inline lapin_kept *lapin_keep(lapin_publications *p, uint16_t channel, co
     return kept;
 }
 
+/* It came back, and why is kept; without the broker's text where there is no memory for it. */
+static inline void lapin_keep_text(lapin_kept *kept, const lapin_returned *message) {
+    kept->message.code = message->code;
+    kept->text = (char *)malloc(message->text.length + 1);
+    char *room = kept->text;
+    if (room) kept->message.text = lapin_copied(&room, message->text);
+    else kept->message.text.at = "";
+}
+
 /* Adds a publish, for which there is room, by the number of its confirm. */
 static inline void lapin_add(lapin_publications *p, uint64_t confirm, uint16_t channel, lapin_kept *kept) {
     lapin_publication *added = &p->at[p->to++];
@@ -185,7 +186,7 @@ static inline void lapin_add(lapin_publications *p, uint64_t confirm, uint16_t c
 /* The place of the first publication whose number isn't below this one. Most stand where their numbers say. */
 static inline size_t lapin_place(const lapin_publications *p, uint64_t confirm) {
     size_t low = p->from, high = p->to;
-    uint64_t guess = low < high && confirm >= p->at[low].confirm ? confirm - p->at[low].confirm : 0;
+    uint64_t guess = low < high ? confirm - p->at[low].confirm : 0; /* of a number below the first it is greater than all */
     if (guess < high - low && p->at[low + guess].confirm == confirm) return low + (size_t)guess;
     while (low < high) {
         size_t middle = low + (high - low) / 2;
@@ -201,17 +202,28 @@ static inline lapin_publication *lapin_find(const lapin_publications *p, uint64_
     return place < p->to && p->at[place].confirm == confirm && !p->at[place].is_told ? &p->at[place] : NULL;
 }
 
+/* Those that were told go from the front; `told` counts the others. */
+static inline void lapin_pass_told(lapin_publications *p) {
+    while (p->told && p->at[p->from].is_told) p->from++, p->told--;
+    if (p->settled < p->from) p->settled = p->from;
+    if (p->swept < p->from) p->swept = p->from;
+    if (p->from == p->to) p->due = 0; /* what still comes back is nobody's */
+}
+
+/* The outcome of the oldest was told, on which nothing hangs but its number. */
+static inline void lapin_pass(lapin_publications *p) {
+    p->from++;
+    lapin_pass_told(p);
+}
+
 /* Its outcome was told, or nobody asks for it. What came back of it is the caller's, if there is something. */
 static inline lapin_kept *lapin_tell(lapin_publications *p, lapin_publication *publication) {
     lapin_kept *back = publication->kept && publication->kept->message.text.at ? publication->kept : NULL;
     if (!back) lapin_let_go(p, publication->kept);
-    free(publication->error);
+    if (publication->error) free(publication->error);
     p->aside -= publication->is_aside;
     publication->kept = NULL, publication->error = NULL, publication->is_told = true, p->told++;
-    for (; p->from < p->to && p->at[p->from].is_told; p->from++) p->told--;
-    if (p->settled < p->from) p->settled = p->from;
-    if (p->swept < p->from) p->swept = p->from;
-    if (p->from == p->to) p->due = 0; /* what still comes back is nobody's */
+    lapin_pass_told(p);
     return back;
 }
 
@@ -236,12 +248,7 @@ static inline bool lapin_give(lapin_publications *p, uint16_t channel, const lap
     }
     if (!found) return false;
     lapin_unchain(p, found);
-    found->message.code = message->code;
-    found->text = (char *)malloc(message->text.length + 1);
-    if (found->text) {
-        char *room = found->text;
-        found->message.text = lapin_copied(&room, message->text);
-    } else found->message.text.at = "";
+    lapin_keep_text(found, message);
     return true;
 }
 

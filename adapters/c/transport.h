@@ -26,6 +26,7 @@
 #include <unistd.h>
 
 #include "lapin.h"
+#include "octets.h"
 #include "returned.h"
 
 enum { LAPIN_ENOUGH = 1 << 16, LAPIN_REMEMBERED = 64 };
@@ -42,9 +43,10 @@ typedef struct {
     lapin_opening limits;
     lapin_clock clock;
     lapin_handle session;
-    char *room, *answer, *line, *leaving;
-    size_t room_length, answer_length, line_length, leaving_length, leaving_from, leaving_to;
+    char *room, *answer, *method, *leaving, *server_properties;
+    size_t room_length, answer_length, method_length, leaving_length, leaving_from, leaving_to, server_properties_length;
     size_t waiting; /* about how many bytes of publishes the session holds */
+    lapin_fields fields; /* of the last reply; its octets are the answer */
     lapin_publications publications;
     lapin_kept *back;
     lapin_returned returned;
@@ -107,21 +109,37 @@ static inline void lapin_wipe(void *bytes, size_t length) {
     for (volatile char *at = (volatile char *)bytes; length; length--) *at++ = 0;
 }
 
-/* The line of the last answer, with its end; NULL where there is no memory. */
+/* The octets of the last answer, with a zero behind them; NULL where there is no memory. */
 static inline char *lapin_told(lapin_connection *c) {
     if (!lapin_fit(&c->answer, &c->answer_length, lapin_answer_length(&c->session) + 1)) return lapin_fails(c, "no memory"), (char *)NULL;
     c->answer[lapin_answer(&c->session, c->answer, c->answer_length - 1)] = 0;
     return c->answer;
 }
 
-/* What the broker said as it closed a channel, or by channel 0 the connection, where that is what this line tells; else nothing. */
-static inline const char *lapin_words(lapin_connection *c, uint16_t channel, const char *line, char *room, size_t length) {
+/* A refusal by its kind and what that kind has. */
+static inline const char *lapin_named(const lapin_refusal *why, char *room, size_t length) {
+    static const char *const STATES[] = {"closed", "opening", "open", "closing", "crossed", "base", "down"};
+    static const char *const NAMES[] = {"?", "NoMemory", "NumbersUsedUp", "", "", "ConnectionLost", "", "", "AlreadyTaken", "UnknownTicket", ""};
+    unsigned long long tag = why->tag, current = why->current, limit = why->limit;
+    if (why->kind == LAPIN_WHY_CHANNEL_STATE) snprintf(room, length, "InvalidChannelState %s", why->state < 7 ? STATES[why->state] : "?");
+    else if (why->kind == LAPIN_WHY_PROTOCOL_ERROR) snprintf(room, length, "ProtocolError %u", why->code);
+    else if (why->kind == LAPIN_WHY_UNEXPECTED_FRAME) snprintf(room, length, "UnexpectedFrame %u %u", why->class_id, why->method_id);
+    else if (why->kind == LAPIN_WHY_PRECONDITION) snprintf(room, length, "PreconditionFailed %llu %llu", tag, current);
+    else if (why->kind == LAPIN_WHY_OUTSTANDING) snprintf(room, length, "ConfirmsOutstanding %llu", limit);
+    else snprintf(room, length, "%s", NAMES[why->kind < 11 ? why->kind : 0]);
+    return room;
+}
+
+/* What the broker said as it closed a channel, or by channel 0 the connection, where that is why; else nothing. */
+static inline const char *lapin_words(lapin_connection *c, uint16_t channel, const lapin_refusal *why, char *room, size_t length) {
     lapin_close_reason reason;
-    const char *code = strstr(line, "ProtocolError "), *text;
-    if (!code && !strstr(line, "closed") && !strstr(line, "down") && !strstr(line, "ConnectionLost")) return "";
+    const char *text;
+    bool is_code = why->kind == LAPIN_WHY_PROTOCOL_ERROR, is_state = why->kind == LAPIN_WHY_CHANNEL_STATE;
+    if (is_state && why->state != LAPIN_CHANNEL_CLOSED && why->state != LAPIN_CHANNEL_DOWN) return "";
+    if (!is_code && !is_state && why->kind != LAPIN_WHY_CONNECTION_LOST) return "";
     for (int is_channel = channel > 0; is_channel >= 0; is_channel--) {
         if (lapin_last_close(&c->session, is_channel ? channel : 0, &reason) != LAPIN_DONE || !(text = lapin_told(c))) continue;
-        if (code && strtoul(code + 14, NULL, 10) != reason.code) continue;
+        if (is_code && why->code != reason.code) continue;
         snprintf(room, length, "; the broker's last close of the %s: %u %s (class %u, method %u)", is_channel ? "channel" : "connection", reason.code, text,
                  reason.class_id, reason.method_id);
         return room;
@@ -133,23 +151,16 @@ static inline const char *lapin_words(lapin_connection *c, uint16_t channel, con
 static inline bool lapin_lose(lapin_connection *c, const char *why) {
     if (!c->is_lost) {
         char words[400], text[sizeof c->lost];
-        snprintf(text, sizeof text, "%.500s%s", why, lapin_words(c, 0, "ConnectionLost", words, sizeof words));
+        lapin_refusal lost;
+        memset(&lost, 0, sizeof lost), lost.kind = LAPIN_WHY_CONNECTION_LOST;
+        snprintf(text, sizeof text, "%.500s%s", why, lapin_words(c, 0, &lost, words, sizeof words));
         strcpy(c->lost, text);
         c->is_lost = true;
         if (c->socket >= 0) close(c->socket);
         c->socket = -1;
-        lapin_line(&c->session, "lost", 4);
+        if (lapin_lost(&c->session) == LAPIN_NO_MEMORY) lapin_lost(&c->session);
     }
     return lapin_fails(c, "ConnectionLost: %s", c->lost);
-}
-
-/* The record's line of a line; NULL where there is none. */
-static inline char *lapin_say(lapin_connection *c, const char *line) {
-    uint32_t status = lapin_line(&c->session, line, strlen(line));
-    if (status == LAPIN_DONE) return lapin_told(c);
-    if (status == LAPIN_NOT_IN_GRAMMAR) lapin_fails(c, "not in the grammar: %.200s", line);
-    else lapin_lose(c, status == LAPIN_NO_MEMORY ? "no memory for a line" : "the session takes nothing further");
-    return NULL;
 }
 
 /* A child counts one more than its parent. */
@@ -198,7 +209,7 @@ static inline bool lapin_take_in(lapin_connection *c, const void *bytes, size_t 
     lapin_count_returns(&c->publications, (const unsigned char *)bytes, length);
     c->publications.swept = c->publications.settled;
     uint32_t status = lapin_receive(&c->session, bytes, length);
-    while (status == LAPIN_REFUSED || status == LAPIN_UNTOLD) status = lapin_receive(&c->session, bytes, 0);
+    while (status == LAPIN_REFUSED) status = lapin_receive(&c->session, bytes, 0);
     if (status == LAPIN_DONE) return true;
     return lapin_lose(c, status == LAPIN_MALFORMED || status == LAPIN_TOO_LONG ? "what came is no frame" : "no memory for what came");
 }

@@ -62,7 +62,8 @@ static size_t string(unsigned char *bytes) {
     return length;
 }
 
-static void say(lapin_handle *h, const char *line) { lapin_line(h, line, strlen(line)); }
+/* the call of a method, which is a literal */
+#define CALL(h, method) lapin_call(&(h), 1, method, sizeof method - 1, &ticket)
 
 int main(int count, char **words) {
     if (count < 2) return 2;
@@ -75,11 +76,12 @@ int main(int count, char **words) {
     for (uint64_t turn = 0; turn < strings; turn++) {
         if (bad || !draw(40)) {
             lapin_open(&h, 4096), opened++;
-            say(&h, "call 1 channel.open"), lapin_send(&h, true, 1 << 16), lapin_leaving(&h, room, sizeof room);
+            uint64_t confirm, ticket;
+            CALL(h, "\0\x14\0\x0a\0"), lapin_send(&h, true, 1 << 16), lapin_leaving(&h, room, sizeof room);
             lapin_receive(&h, "\x01\0\x01\0\0\0\x08\0\x14\0\x0b\0\0\0\0\xce", 16);
-            say(&h, "call 1 confirm.select 0"), say(&h, "call 1 basic.consume x71 x74 0 0 0 0 {}"), say(&h, "call 1 basic.get x71 0");
-            uint64_t confirm;
-            for (uint64_t n = draw(4); n--;) lapin_publish(&h, 1, "", 0, "q", 1, true, bytes, draw(6000), "[]", 2, &confirm);
+            CALL(h, "\0\x55\0\x0a\0"), CALL(h, "\0\x3c\0\x14\0\0\1q\1t\0\0\0\0\0"), CALL(h, "\0\x3c\0\x46\0\0\1q\0");
+            lapin_call(&h, 1, bytes, draw(64), &ticket);
+            for (uint64_t n = draw(4); n--;) lapin_publish(&h, 1, "", 0, "q", 1, true, false, bytes, draw(6000), bytes, 2 + draw(99), &confirm);
             if (draw(2)) lapin_send(&h, true, 1 << 16), lapin_leaving(&h, room, sizeof room);
             bad = false;
         }
@@ -95,15 +97,26 @@ int main(int count, char **words) {
             lapin_leaving(&h, room, sizeof room);
         }
         lapin_message m;
+        lapin_fields f;
         if (!draw(3)) lapin_outcome(&h, 1 + draw(4));
+        uint64_t outcome;
+        lapin_return back;
+        if (!draw(3) && lapin_confirmed(&h, 1 + draw(4), &outcome) == LAPIN_DONE && lapin_return_at(&h, 0, &back) == LAPIN_DONE) {
+            m = back.message;
+            if (lapin_answer_length(&h) != m.exchange + m.routing_key + m.properties + m.body + back.text) return printf("the parts of what came back\n"), 1;
+        }
+        if (!draw(3) && lapin_reply(&h, 1 + draw(6), &f) == LAPIN_DONE && f.kind == LAPIN_REPLY_MESSAGE) {
+            m = f.message;
+            if (lapin_answer_length(&h) != m.exchange + m.routing_key + m.properties + m.body) return printf("the parts of a reply\n"), 1;
+        }
         if (!draw(3) && lapin_delivery(&h, 1, &m) == LAPIN_DONE) {
             if (lapin_answer(&h, room, sizeof room) != m.exchange + m.routing_key + m.properties + m.body) return printf("the parts of a message\n"), 1;
             lapin_ack(&h, m.acker, false);
         }
-        lapin_opening o = {(uint32_t)draw(5), 131072, 2047, 60};
+        lapin_opening o = {(uint32_t)draw(5), 131072, 2047, 60, LAPIN_PLAIN};
         size_t written;
         uint16_t code;
-        shaken[lapin_shake(&o, bytes, length, "guest", 5, "guest", 5, "/", 1, room, sizeof room, &written, &code)]++;
+        shaken[lapin_shake(&o, bytes, length, "guest", 5, "guest", 5, "/", 1, "", 0, room, sizeof room, &written, &code)]++;
         if (!(turn % 64)) {
             size_t held = mallinfo2().uordblks;
             most = held > most ? held : most;

@@ -9,8 +9,8 @@ static void *second(void *given) {
     lapin_connection *c = (lapin_connection *)given;
     lapin_delivered message;
     uint64_t confirm = 77;
-    bool is_refused = !lapin_ask(c, "call 1 basic.qos 5 0") && !lapin_turn(c, 10) && !lapin_flush(c) && !lapin_next(c, 1, &message, 10) &&
-                      !lapin_publish_bytes(c, 1, "", "q", true, "x", 1, "[]", &confirm) && lapin_wait(c, 1) == LAPIN_ERROR &&
+    bool is_refused = !lapin_qos(c, 1, 5, false) && !lapin_turn(c, 10) && !lapin_flush(c) && !lapin_next(c, 1, &message, 10) &&
+                      !lapin_publish_bytes(c, 1, "", "q", true, "x", 1, NULL, &confirm) && lapin_wait(c, 1) == LAPIN_ERROR &&
                       lapin_settled(c, 1) == LAPIN_ERROR && !lapin_disconnect(c) && strstr(lapin_error(c), "another thread");
     return is_refused && confirm == 77 ? given : NULL;
 }
@@ -18,7 +18,7 @@ static void *second(void *given) {
 static void *mover(void *given) {
     lapin_connection *c = (lapin_connection *)given;
     lapin_move_here(c);
-    return lapin_publish_text(c, 1, "", "q", "moved", "[]") == LAPIN_ACK ? given : NULL;
+    return lapin_publish_text(c, 1, "", "q", "moved", NULL) == LAPIN_ACK ? given : NULL;
 }
 
 static bool run(void *(*task)(void *), lapin_connection *c) {
@@ -30,20 +30,20 @@ static bool run(void *(*task)(void *), lapin_connection *c) {
 int main(int count, char **words) {
     lapin_connection *c = begin(count, words);
     int status = 1;
-    need(c, lapin_ask(c, "call 1 confirm.select 0") != NULL);
+    need(c, lapin_confirm_select(c, 1));
     if (!run(second, c)) return printf("a second thread was not refused\n"), 1;
-    need(c, lapin_publish_text(c, 1, "", "q", "first", "[]") == LAPIN_ACK);
+    need(c, lapin_publish_text(c, 1, "", "q", "first", NULL) == LAPIN_ACK);
     if (!run(mover, c)) return printf("it did not move\n"), 1;
     lapin_move_here(c);
     pid_t child = fork();
     if (!child) {
         uint64_t confirm;
-        bool is_lost = lapin_publish_bytes(c, 1, "", "q", true, "twice", 5, "[]", &confirm) && !lapin_flush(c) && strstr(lapin_error(c), "forked") &&
+        bool is_lost = lapin_publish_bytes(c, 1, "", "q", true, "twice", 5, NULL, &confirm) && !lapin_flush(c) && strstr(lapin_error(c), "forked") &&
                        lapin_wait(c, confirm) == LAPIN_ERROR && !lapin_disconnect(c) && !lapin_disconnect(c);
         _exit(is_lost ? 0 : 1);
     }
     if (waitpid(child, &status, 0) != child || status) return printf("the child's was not lost\n"), 1;
-    need(c, lapin_publish_text(c, 1, "", "q", "last", "[]") == LAPIN_ACK && lapin_disconnect(c));
+    need(c, lapin_publish_text(c, 1, "", "q", "last", NULL) == LAPIN_ACK && lapin_disconnect(c));
     printf("refused, moved, forked\n");
     return 0;
 }

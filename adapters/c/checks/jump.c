@@ -18,7 +18,7 @@ int main(int count, char **words) {
     memset(&action, 0, sizeof action), action.sa_handler = on_signal;
     sigaction(SIGALRM, &action, NULL), setitimer(ITIMER_REAL, &once, NULL);
     if (!sigsetjmp(back, 1)) return lapin_turn(c, 60000), printf("no signal came\n"), 1;
-    if (lapin_turn(c, 1) || lapin_ask(c, "call 1 basic.qos 5 0") || lapin_publish_bytes(c, 1, "", "q", true, "x", 1, "[]", &confirm)) return 1;
+    if (lapin_turn(c, 1) || lapin_qos(c, 1, 5, false) || lapin_publish_bytes(c, 1, "", "q", true, "x", 1, NULL, &confirm)) return 1;
     printf("%s\n", lapin_error(c));
     int socket = c->socket;
     lapin_disconnect(c);

@@ -3,7 +3,7 @@
 
 int main(int count, char **words) {
     static lapin_connection c;
-    lapin_opening limits = {0, 131072, 2047, 60};
+    lapin_opening limits = {0, 131072, 2047, 60, LAPIN_PLAIN};
     if (count < 3) return 2;
     uint64_t since = lapin_now();
     bool is_open = lapin_connect_within(&c, words[1], words[2], "guest", "secret-password", "/", &limits, 2000);

@@ -16,10 +16,10 @@ int main(int count, char **words) {
     sigaction(SIGALRM, &action, NULL), setitimer(ITIMER_REAL, &each, NULL);
     errno = EDOM;
     lapin_connection *c = begin(count, words);
-    need(c, lapin_ask(c, "call 1 confirm.select 0") != NULL);
+    need(c, lapin_confirm_select(c, 1));
     for (int i = 0; i < 80; i++) {
         memset(body, 'a' + i % 26, sizeof body);
-        need(c, lapin_publish_bytes(c, 1, "", "signals", false, body, sizeof body, "[]", &confirms[i]));
+        need(c, lapin_publish_bytes(c, 1, "", "signals", false, body, sizeof body, NULL, &confirms[i]));
     }
     for (int i = 0; i < 80; i++) need(c, lapin_wait(c, confirms[i]) == LAPIN_ACK);
     need(c, lapin_disconnect(c));

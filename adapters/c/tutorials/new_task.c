@@ -3,8 +3,11 @@
 
 int main(int count, char **words) {
     lapin_connection *c = begin(count, words);
-    char queue[512];
-    need(c, lapin_ask(c, "call 1 confirm.select 0") && lapin_ask(c, "call 1 queue.declare %s 0 1 0 0 0 {}", lapin_hex(queue, "task_queue")));
-    printf(" [x] Sent %s: %s\n", words[3], outcome_name(lapin_publish_text(c, 1, "", "task_queue", words[3], "[delivery_mode=2]")));
+    char room[16];
+    lapin_properties properties = lapin_no_properties();
+    properties.flags = LAPIN_DELIVERY_MODE, properties.delivery_mode = 2;
+    lapin_octets persistent = lapin_listed(&properties, room, sizeof room);
+    need(c, lapin_confirm_select(c, 1) && lapin_queue_declare(c, 1, "task_queue", LAPIN_DURABLE, NULL, NULL));
+    printf(" [x] Sent %s: %s\n", words[3], outcome_name(lapin_publish_text(c, 1, "", "task_queue", words[3], &persistent)));
     lapin_disconnect(c);
 }

@@ -3,15 +3,12 @@
 
 int main(int count, char **words) {
     lapin_connection *c = begin(count, words);
-    char queue[512];
-    const char *told = "";
-    need(c, lapin_ask(c, "call 1 queue.declare %s 0 0 0 0 0 {}", lapin_hex(queue, "hello")) &&
-                (told = lapin_ask(c, "call 1 basic.consume %s x 0 0 0 0 {}", queue)));
-    uint64_t consumer = number(told);
+    uint64_t consumer = 0;
+    need(c, lapin_queue_declare(c, 1, "hello", 0, NULL, NULL) && (consumer = lapin_consume(c, 1, "hello", "", 0, NULL)));
     for (int i = 0; i < atoi(words[3]); i++) {
         lapin_delivered message;
         need(c, lapin_next(c, consumer, &message, 10000));
-        printf(" [x] Received %.*s\n", (int)message.numbers.body, message.body);
+        printf(" [x] Received %.*s\n", (int)message.body.length, message.body.at);
         lapin_ack(&c->session, message.numbers.acker, false);
     }
     lapin_disconnect(c);

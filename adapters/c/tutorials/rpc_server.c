@@ -7,32 +7,25 @@ static uint64_t fib(int n) {
     return a;
 }
 
-/* The text of a property, from its hexadecimal digits. */
-static void property(char *room, const char *properties, const char *name) {
-    const char *at = strstr(properties, name);
-    unsigned byte;
-    for (at = at ? at + strlen(name) + 2 : ""; sscanf(at, "%2x", &byte) == 1; at += 2) *room++ = (char)byte;
-    *room = 0;
-}
-
 int main(int count, char **words) {
     lapin_connection *c = begin(count, words);
-    char queue[512], reply_to[256], correlation[256], token[1100], hex[600], body[32];
-    const char *told = "";
-    uint64_t confirm;
-    need(c, lapin_ask(c, "call 1 basic.qos 1 0") && lapin_ask(c, "call 1 queue.declare %s 0 0 0 0 0 {}", lapin_hex(queue, "rpc_queue")) &&
-                (told = lapin_ask(c, "call 1 basic.consume %s x 0 0 0 0 {}", queue)));
-    uint64_t consumer = number(told);
+    char reply_to[256], room[300], body[32];
+    uint64_t confirm, consumer = 0;
+    need(c, lapin_qos(c, 1, 1, false) && lapin_queue_declare(c, 1, "rpc_queue", 0, NULL, NULL) &&
+                (consumer = lapin_consume(c, 1, "rpc_queue", "", 0, NULL)));
     printf(" [x] Awaiting RPC requests\n"), fflush(stdout);
     for (int i = 0; i < atoi(words[3]); i++) {
         lapin_delivered message;
         need(c, lapin_next(c, consumer, &message, 10000));
-        int n = atoi(message.body);
-        property(reply_to, message.properties, "reply_to"), property(correlation, message.properties, "correlation_id");
-        snprintf(token, sizeof token, "[correlation_id=%s]", lapin_hex(hex, correlation));
+        int n = atoi(message.body.at);
+        lapin_properties asked, answer = lapin_no_properties();
+        if (!lapin_read_properties(message.properties, &asked)) printf(" [.] its properties are none\n");
+        snprintf(reply_to, sizeof reply_to, "%.*s", (int)asked.reply_to.length, asked.reply_to.at);
+        answer.flags = LAPIN_CORRELATION_ID, answer.correlation_id = asked.correlation_id;
+        lapin_octets list = lapin_listed(&answer, room, sizeof room);
         snprintf(body, sizeof body, "%llu", (unsigned long long)fib(n));
         printf(" [.] fib(%d)\n", n);
-        need(c, lapin_publish_bytes(c, 1, "", reply_to, false, body, strlen(body), token, &confirm));
+        need(c, lapin_publish_bytes(c, 1, "", reply_to, false, body, strlen(body), &list, &confirm));
         lapin_ack(&c->session, message.numbers.acker, false);
         need(c, lapin_flush(c));
     }

@@ -9,12 +9,9 @@ static inline lapin_connection *begin(int count, char **words) {
     static lapin_connection c;
     if (count < 3) fprintf(stderr, "%s HOST PORT ..\n", words[0]), exit(2);
     need(&c, lapin_connect(&c, words[1], words[2], "guest", "guest", "/"));
-    need(&c, lapin_ask(&c, "call 1 channel.open") != NULL);
+    need(&c, lapin_channel_open(&c, 1));
     return &c;
 }
-
-/* The number behind two words: `answer consumer 1`. */
-static inline uint64_t number(const char *told) { return strtoull(strchr(strchr(told, ' ') + 1, ' ') + 1, 0, 10); }
 
 /* What an outcome is called. */
 static inline const char *outcome_name(uint32_t outcome) {
