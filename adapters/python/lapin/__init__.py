@@ -13,8 +13,8 @@ and the words for Python. `lapin.aio` is the same for asyncio.
 from ._library import library_version
 from ._values import Message, Outcome, Queue, Returned
 from .connection import Channel, Confirm, Connection, Consumer, connect
-from .errors import CallFailed, CloseReason, ConnectionLost, Error, OpeningFailed, Refused, Timeout
+from .errors import CallFailed, CloseReason, ConnectionLost, Error, MalformedProperties, OpeningFailed, Refused, Timeout
 
 __all__ = ["connect", "Connection", "Channel", "Confirm", "Consumer", "Message", "Outcome", "Queue", "Returned", "CloseReason", "Error", "Refused",
-           "CallFailed", "ConnectionLost", "OpeningFailed", "Timeout", "library_version"]
+           "CallFailed", "ConnectionLost", "MalformedProperties", "OpeningFailed", "Timeout", "library_version"]
 __version__ = "0.1.0"

@@ -1,24 +1,27 @@
-"""The calls of a channel that wait for an answer of the broker, each once: its line for the session, and its answer's value. Both connections
-make methods of them; the waiting stands in `connection.py` and `aio.py`."""
+"""The calls of a channel that wait for an answer of the broker, each once: the octets of its method, and its answer's value. Both connections make
+methods of them; the waiting stands in `connection.py` and `aio.py`."""
 from __future__ import annotations
 
 import inspect
 from dataclasses import dataclass
-from typing import Any, Callable, Dict, Generic, List, Optional, Tuple, TypeVar
+from typing import Any, Callable, Dict, Generic, Optional, TypeVar
 
-from ._text import flag, short, table, whole
-from ._values import Queue, read_count, read_queue
+from ._arguments import flag, octets_of, whole
+from ._library import Reply
+from ._octets import table_of
+from ._values import Queue
 
 T = TypeVar("T")
 
 
 @dataclass
 class Ask(Generic[T]):
-    """A call: its line, its answer's value by the words of the record, and what is done with an answer for which nobody waits any more."""
+    """A call: its method's octets (none where it is a limit), its answer's value, and what is done with an answer for which nobody waits any more."""
     channel: int
-    line: str
-    read: Callable[[List[str]], T]
+    method: bytes
+    read: Callable[[Reply], T]
     undo: Optional[Callable[[T], Any]] = None
+    limit: int = 0
 
 
 def shown(make: Callable[..., Ask[Any]], call: Callable[..., Any]) -> None:
@@ -30,122 +33,152 @@ def shown(make: Callable[..., Ask[Any]], call: Callable[..., Any]) -> None:
     call.__signature__ = given.replace(parameters=[first.replace(name="self", annotation=first.empty), *rest], return_annotation=answer)  # type: ignore[attr-defined]
 
 
-def nothing(words: List[str]) -> None:
+def nothing(reply: Reply) -> None:
     """The value of an answer that says no more than that it was done."""
 
 
-def ask(channel: int, method: str, *fields: str, read: Callable[[List[str]], T]) -> Ask[T]:
-    return Ask(channel, " ".join(("call", str(channel), method, *fields)), read)
+def count(reply: Reply) -> int:
+    return reply.number
 
 
-def flags(**given: bool) -> Tuple[str, ...]:
-    return tuple(flag(name, value) for name, value in given.items())
+def short(name: str, value: Any) -> bytes:
+    """A short text behind its length."""
+    data = octets_of(name, value)
+    return bytes((len(data),)) + data
+
+
+def bits(**given: bool) -> bytes:
+    """Up to eight marks in an octet, the first one lowest."""
+    return bytes((sum(flag(name, value) << place for place, (name, value) in enumerate(given.items())),))
+
+
+def ask(channel: int, klass: int, method: int, *arguments: bytes, read: Callable[[Reply], T]) -> Ask[T]:
+    return Ask(channel, b"".join((bytes((0, klass, 0, method)), *arguments)), read)
+
+
+#: The first argument of many methods, of which RabbitMQ knows nothing.
+_TICKET = b"\0\0"
+#: Why this side closes: the code 200, its text, and no method that failed.
+_BYE = b"\0\xc8\x03bye\0\0\0\0"
 
 
 def queue_declare(channel: int, queue: str = "", *, durable: bool = False, exclusive: bool = False, auto_delete: bool = False,
                   passive: bool = False, arguments: Optional[Dict[str, Any]] = None) -> Ask[Queue]:
     """Declares a queue; with an empty name the broker makes one up. Its name, its messages and its consumers."""
-    marks = flags(passive=passive, durable=durable, exclusive=exclusive, auto_delete=auto_delete)
-    return ask(channel, "queue.declare", short("queue", queue), *marks, "0", table("arguments", arguments), read=read_queue)
+    marks = bits(passive=passive, durable=durable, exclusive=exclusive, auto_delete=auto_delete)
+    return ask(channel, 50, 10, _TICKET, short("queue", queue), marks, table_of("arguments", arguments),
+               read=lambda reply: Queue(reply.text, reply.messages, reply.consumers))
 
 
 def queue_delete(channel: int, queue: str, *, if_unused: bool = False, if_empty: bool = False) -> Ask[int]:
     """Deletes a queue. How many messages it had."""
-    return ask(channel, "queue.delete", short("queue", queue), *flags(if_unused=if_unused, if_empty=if_empty), "0", read=read_count)
+    return ask(channel, 50, 40, _TICKET, short("queue", queue), bits(if_unused=if_unused, if_empty=if_empty), read=count)
 
 
 def queue_purge(channel: int, queue: str) -> Ask[int]:
     """Drops the messages that wait in a queue. How many."""
-    return ask(channel, "queue.purge", short("queue", queue), "0", read=read_count)
+    return ask(channel, 50, 30, _TICKET, short("queue", queue), b"\0", read=count)
 
 
 def queue_bind(channel: int, queue: str, exchange: str, routing_key: str = "", *, arguments: Optional[Dict[str, Any]] = None) -> Ask[None]:
     """Binds a queue to an exchange."""
     names = short("queue", queue), short("exchange", exchange), short("routing_key", routing_key)
-    return ask(channel, "queue.bind", *names, "0", table("arguments", arguments), read=nothing)
+    return ask(channel, 50, 20, _TICKET, *names, b"\0", table_of("arguments", arguments), read=nothing)
 
 
 def queue_unbind(channel: int, queue: str, exchange: str, routing_key: str = "", *, arguments: Optional[Dict[str, Any]] = None) -> Ask[None]:
     """Takes a binding away."""
     names = short("queue", queue), short("exchange", exchange), short("routing_key", routing_key)
-    return ask(channel, "queue.unbind", *names, table("arguments", arguments), read=nothing)
+    return ask(channel, 50, 50, _TICKET, *names, table_of("arguments", arguments), read=nothing)
 
 
 def exchange_declare(channel: int, exchange: str, kind: str = "direct", *, durable: bool = False, auto_delete: bool = False,
                      internal: bool = False, passive: bool = False, arguments: Optional[Dict[str, Any]] = None) -> Ask[None]:
     """Declares an exchange: `direct`, `fanout`, `topic`, `headers`, or a kind of the broker's own."""
-    marks = flags(passive=passive, durable=durable, auto_delete=auto_delete, internal=internal)
-    return ask(channel, "exchange.declare", short("exchange", exchange), short("kind", kind), *marks, "0", table("arguments", arguments), read=nothing)
+    marks = bits(passive=passive, durable=durable, auto_delete=auto_delete, internal=internal)
+    return ask(channel, 40, 10, _TICKET, short("exchange", exchange), short("kind", kind), marks, table_of("arguments", arguments), read=nothing)
 
 
 def exchange_delete(channel: int, exchange: str, *, if_unused: bool = False) -> Ask[None]:
     """Deletes an exchange."""
-    return ask(channel, "exchange.delete", short("exchange", exchange), flag("if_unused", if_unused), "0", read=nothing)
+    return ask(channel, 40, 20, _TICKET, short("exchange", exchange), bits(if_unused=if_unused), read=nothing)
 
 
 def exchange_bind(channel: int, destination: str, source: str, routing_key: str = "", *, arguments: Optional[Dict[str, Any]] = None) -> Ask[None]:
     """Binds an exchange to another one."""
     names = short("destination", destination), short("source", source), short("routing_key", routing_key)
-    return ask(channel, "exchange.bind", *names, "0", table("arguments", arguments), read=nothing)
+    return ask(channel, 40, 30, _TICKET, *names, b"\0", table_of("arguments", arguments), read=nothing)
+
+
+def exchange_unbind(channel: int, destination: str, source: str, routing_key: str = "", *, arguments: Optional[Dict[str, Any]] = None) -> Ask[None]:
+    """Takes a binding of two exchanges away."""
+    names = short("destination", destination), short("source", source), short("routing_key", routing_key)
+    return ask(channel, 40, 40, _TICKET, *names, b"\0", table_of("arguments", arguments), read=nothing)
 
 
 def qos(channel: int, prefetch: int, *, whole: bool = False) -> Ask[None]:
     """How many messages may be unsettled, 0 to 65535, where 0 is no limit: of each consumer, or with `whole` of the channel."""
-    return ask(channel, "basic.qos", number("prefetch", prefetch), flag("whole", whole), read=nothing)
+    return ask(channel, 60, 10, b"\0\0\0\0", _two("prefetch", prefetch), bits(whole=whole), read=nothing)
 
 
-def number(name: str, value: int) -> str:
-    return str(whole(name, value, 0, 0xffff))
+def _two(name: str, value: int) -> bytes:
+    return whole(name, value, 0, 0xffff).to_bytes(2, "big")
 
 
-def recover(channel: int) -> Ask[None]:
-    """Has all unsettled messages delivered again."""
-    return ask(channel, "basic.recover", "1", read=nothing)
+def recover(channel: int, *, requeue: bool = True) -> Ask[None]:
+    """Has all unsettled messages delivered again: to anybody, or without `requeue` to whom they went first, at which
+    RabbitMQ ends the connection."""
+    return ask(channel, 60, 110, bits(requeue=requeue), read=nothing)
+
+
+def flow(channel: int, active: bool) -> Ask[bool]:
+    """Asks the broker to stop its messages to this channel, or to go on. Whether it goes on. At a stop RabbitMQ ends the connection."""
+    return ask(channel, 20, 20, bits(active=active), read=lambda reply: reply.number == 1)
 
 
 def tx_select(channel: int) -> Ask[None]:
     """Puts the channel into transactions."""
-    return ask(channel, "tx.select", read=nothing)
+    return ask(channel, 90, 10, read=nothing)
 
 
 def tx_commit(channel: int) -> Ask[None]:
     """Commits."""
-    return ask(channel, "tx.commit", read=nothing)
+    return ask(channel, 90, 20, read=nothing)
 
 
 def tx_rollback(channel: int) -> Ask[None]:
     """Rolls back."""
-    return ask(channel, "tx.rollback", read=nothing)
+    return ask(channel, 90, 30, read=nothing)
 
 
 def channel_open(channel: int) -> Ask[None]:
-    return ask(channel, "channel.open", read=nothing)
+    return ask(channel, 20, 10, b"\0", read=nothing)
 
 
 def channel_close(channel: int) -> Ask[None]:
-    return ask(channel, "channel.close", "200", short("reply_text", "bye"), read=nothing)
+    return ask(channel, 20, 40, _BYE, read=nothing)
 
 
 def connection_close() -> Ask[None]:
-    return ask(0, "connection.close", "200", short("reply_text", "bye"), read=nothing)
+    return ask(0, 10, 50, _BYE, read=nothing)
 
 
 def confirm_select(channel: int) -> Ask[None]:
-    return ask(channel, "confirm.select", "0", read=nothing)
+    return ask(channel, 85, 10, b"\0", read=nothing)
 
 
 def confirm_limit(channel: int, limit: int) -> Ask[None]:
-    return ask(channel, "confirm.limit", str(whole("limit", limit, 0, (1 << 32) - 1)), read=nothing)
+    return Ask(channel, b"", nothing, limit=whole("limit", limit, 0, (1 << 32) - 1))
 
 
-def get(channel: int, queue: str, no_ack: bool) -> Ask[List[str]]:
-    return ask(channel, "basic.get", short("queue", queue), flag("no_ack", no_ack), read=list)
+def get(channel: int, queue: str, no_ack: bool) -> Ask[Reply]:
+    return ask(channel, 60, 70, _TICKET, short("queue", queue), bits(no_ack=no_ack), read=lambda reply: reply)
 
 
 def consume(channel: int, queue: str, tag: str, no_ack: bool, exclusive: bool, arguments: Optional[Dict[str, Any]]) -> Ask[int]:
-    marks = flag("no_ack", no_ack), flag("exclusive", exclusive)
-    return ask(channel, "basic.consume", short("queue", queue), short("tag", tag), "0", *marks, "0", table("arguments", arguments), read=read_count)
+    marks = bits(no_local=False, no_ack=no_ack, exclusive=exclusive)
+    return ask(channel, 60, 20, _TICKET, short("queue", queue), short("tag", tag), marks, table_of("arguments", arguments), read=count)
 
 
 def cancel(channel: int, tag: str) -> Ask[None]:
-    return ask(channel, "basic.cancel", short("tag", tag), "0", read=nothing)
+    return ask(channel, 60, 30, short("tag", tag), b"\0", read=nothing)

@@ -13,8 +13,8 @@ from itertools import takewhile
 from typing import Any, Dict, Iterable, List, Optional, Set, Tuple, Union
 
 from ._library import Session, _here, _outcome
-from ._text import read_properties
-from ._values import BY_KIND, BY_NUMBER, Outcome, Returned, read_returned
+from ._octets import is_within
+from ._values import BY_NUMBER, Outcome, Returned
 from .errors import CallFailed, Error, Refused
 
 HEAD = struct.Struct(">BHI")
@@ -22,6 +22,8 @@ HEAD = struct.Struct(">BHI")
 ACK, NACK, RETURN = b"\x00\x3c\x00\x50", b"\x00\x3c\x00\x78", b"\x00\x3c\x00\x32"
 CLOSES = frozenset((b"\x00\x14\x00\x28", b"\x00\x14\x00\x29", b"\x00\x0a\x00\x32", b"\x00\x0a\x00\x33"))
 LOOKED_FOR = CLOSES | {ACK, NACK, RETURN}
+#: The methods that name a consumer: a delivery, and the broker's cancel.
+NAMING = frozenset((b"\x00\x3c\x00\x3c", b"\x00\x3c\x00\x1e"))
 #: The octets of a frame within which such a method says all that is looked for.
 TOLD = 21
 #: That it isn't known how many messages came back.
@@ -36,7 +38,7 @@ UNTOLD = CallFailed("Untold: an exception fell as outcomes were read")
 UNSORTED = CallFailed("Unsorted: a message came back, and it isn't known whose")
 
 
-#: What a message says: exchange, routing key, and its body by its length and octets or digest; and the text of its properties.
+#: What a message says: exchange, routing key, and its body by its length and octets or digest; and the octets of its properties.
 Identity = Tuple[Tuple[bytes, bytes, int, bytes], bytes]
 
 
@@ -46,9 +48,13 @@ def identity_of(exchange: bytes, routing_key: bytes, properties: bytes, body: by
     return (exchange, routing_key, size, body if size <= 64 else blake2b(body, digest_size=32).digest()), properties
 
 
-def is_within(sent: Dict[str, Any], came: Dict[str, Any]) -> bool:
-    """Whether what came has all of these properties, and of headers all entries."""
-    return all(came.get(name) == value or name == "headers" and is_within(value, came.get(name, {})) for name, value in sent.items())
+def came_back(session: Session, place: int) -> Optional[Returned]:
+    """A message that came back, by its place among those that the session told of last."""
+    found = session.return_at(place)
+    if found is None:
+        return None
+    code, text, (_, _, _, exchange, routing_key, properties, body) = found
+    return Returned(code, text, exchange, routing_key, properties, body)
 
 
 class ConfirmCore:
@@ -155,39 +161,50 @@ class Confirms:
     def _beyond(self, code: int, number: int) -> Found:
         """What the session's number tells not all of: an error, a message that came back, or nothing yet."""
         if code:
-            return self.failed(self._session.refusal() if code == 4 else "NoMemory")
+            return self.failed(self._session.refusal())
         self._is_reading = True  # an exception that falls now may lose a message that came back
         try:
-            words = self._session.line(f"confirm {number}").split(" ")
+            code = self._session.confirmed(number)
+            returned = came_back(self._session, 0) if code in BY_NUMBER else None
         except Refused as error:  # it was given or forgotten
-            words = ["error", error.words]
-        except (ValueError, MemoryError):  # the session has ended for want of memory
-            words = ["error", "NoMemory"]
-        if len(words) > 2 and words[0] == "confirmed" and words[2] != "-":
-            self._give(read_returned(words[2:]), words[6].encode())
+            self._is_reading = False
+            return self.failed(error.words)
+        except MemoryError:  # what came back isn't read, so that it isn't known whose it is
+            return self.failed("NoMemory")
+        except ValueError:  # the session takes nothing further
+            self._is_reading = False
+            return self.failed("NoMemory")
+        if returned is not None:
+            self._give(returned)
         self._is_reading = False
-        if words[0] == "pending":
+        if code == 0:
             return None
-        return self.failed(" ".join(words[1:])) if words[0] == "error" else BY_KIND[words[1]]
+        return BY_NUMBER[code] if code in BY_NUMBER else self.failed(self._session.refusal())
 
     def failed(self, words: str) -> CallFailed:
         failed: CallFailed = self._channel._failed(words)
         return failed
 
-    def _give(self, returned: Returned, properties: bytes) -> None:
+    def _give(self, returned: Returned) -> None:
         """Gives what came back to its own publish: the oldest that it equals, or, of a broker that adds properties, that it equals but for these."""
         self.unread -= self.unread > 0
-        rest, _ = identity_of(returned.exchange.encode(), returned.routing_key.encode(), properties, returned.body)
+        came = returned.properties_octets
+        rest, _ = identity_of(returned.exchange.encode(), returned.routing_key.encode(), came, returned.body)
         alike = self._alike.get(rest, {})
-        waiting: Iterable[ConfirmCore] = alike.get(properties, ())
+        waiting: Iterable[ConfirmCore] = alike.get(came, ())
         if not waiting:
-            waiting = next((it for sent, it in alike.items() if is_within(read_properties(sent), returned.properties)), ())
+            waiting = next((it for sent, it in alike.items() if is_within(sent, came)), ())
         for confirm in waiting:
             if confirm._found is not UNTOLD or confirm in self._now:
                 self._came[confirm] = returned
                 self._strike(confirm)
                 return
+        self._strange(returned)
+
+    def _strange(self, returned: Returned) -> None:
+        """A message came back that no confirm gives."""
         self.strangers.append(returned)
+        self._channel.connection._returning.setdefault(self._channel.number, 1)
 
     def _strike(self, confirm: ConfirmCore) -> None:
         """No message is given to this publish any more."""
@@ -240,7 +257,7 @@ class Confirms:
         if returned is not None and isinstance(found, Outcome):
             found = Outcome(found.kind, returned)
             if confirm in self.forgotten:
-                self.strangers.append(returned)
+                self._strange(returned)
         confirm._found = found
 
     def _give_up(self) -> None:
@@ -292,6 +309,8 @@ class Seen:
     def __init__(self) -> None:
         # How many octets of a frame are to come yet, and the head of one that isn't there whole.
         self._skip, self._rest = 0, b""
+        #: Where somebody asks for it: channel and tag of each delivery and of each cancel, in the order in which they came.
+        self.named: Optional[List[Tuple[int, bytes]]] = None
 
     def look(self, data: bytes) -> List[Tuple[bytes, int, int, bool]]:
         """The methods that are looked for: class and method, channel, and of a settlement its tag and whether it covers those below."""
@@ -306,6 +325,10 @@ class Seen:
                 name = data[at + 7:at + 11]
                 if name in LOOKED_FOR:
                     found.append((name, channel, int.from_bytes(data[at + 11:at + 19], "big"), data[at + 19:at + 20] != b"\x00"))
+                elif self.named is not None and name in NAMING:
+                    if end - at < 267 and end - at < size + 8:  # the tag may have 255 octets
+                        break
+                    self.named.append((channel, data[at + 12:at + 12 + data[at + 11]]))
             at += size + 8
         self._skip = max(at - end, 0)
         if at < end:

@@ -3,14 +3,16 @@ stand here."""
 from __future__ import annotations
 
 import ctypes
-from typing import Any, Dict, List, Optional, Set, Tuple, Type, TypeVar, Union
+from itertools import takewhile
+from typing import Any, Callable, Dict, Iterator, List, Optional, Set, Tuple, Type, TypeVar, Union
 
-from . import _asks, _text
+from . import _asks, _octets
+from ._arguments import body_of, flag, octets_of, whole
 from ._asks import Ask
-from ._confirms import CLOSES, RETURN, UNKNOWN, ConfirmCore, Confirms, Seen, identity_of
-from ._library import Session, _here, _publish
-from ._values import Message, Returned, read_returned
-from .errors import CallFailed, CloseReason, Error, Refused
+from ._confirms import CLOSES, RETURN, UNKNOWN, ConfirmCore, Confirms, Seen, came_back, identity_of
+from ._library import Reply, Session, _here, _publish
+from ._values import Message, Returned
+from .errors import CallFailed, CloseReason, ConnectionLost, Error, Refused
 
 T = TypeVar("T")
 
@@ -20,6 +22,10 @@ class Core:
     _confirms_at_once = False
     #: So many octets of publishes leave without a call that waits.
     _enough = 1 << 16
+    #: Called with True where the broker takes no messages any more, and with False where it does again.
+    on_blocked: Optional[Callable[[bool], Any]] = None
+    #: Called once, with the error that tells why, where the connection is gone and `close` wasn't called.
+    on_close: Optional[Callable[[ConnectionLost], Any]] = None
 
     def __init__(self, frame_max: int, channel_max: int):
         self._session, self._channel_max = Session(frame_max), channel_max
@@ -33,10 +39,18 @@ class Core:
         self._is_torn = False
         # Channels whose opening nobody waits for any more, and calls and consumers that nobody has.
         self._orphans: Set[int] = set()
-        self._left: List[Tuple[str, Ask[Any]]] = []
+        self._left: List[Tuple[int, Ask[Any]]] = []
         self._ending: List[ConsumerCore] = []
         # What came says of publishes; whether a close was seen in what came last; and why the connection is gone.
         self._seen, self._has_closed, self._why = Seen(), False, ""
+        # The channels of which a close came since it was looked what became of them, 0 for the connection.
+        self._closes: Set[int] = set()
+        # How many messages came back to each channel without confirms and were not read yet.
+        self._returning: Dict[int, int] = {}
+        # Of notices: whether the broker was blocked and the end was told, consumers whose end is to be told, and what came back.
+        self._was_blocked, self._is_end_told = False, False
+        self._ended: List[ConsumerCore] = []
+        self._untold: List[Tuple[Callable[[Returned], Any], Returned]] = []
         # Whether octets were read of which it isn't known what they said, since an exception fell.
         self._is_blind = False
 
@@ -53,6 +67,9 @@ class Core:
             channel = self._channels.get(number)
             if name in CLOSES:
                 self._has_closed = True
+                self._closes.add(number)
+            elif name == RETURN and channel is not None and not channel._confirms.is_on:
+                self._returning[number] = self._returning.get(number, 0) + 1
             elif channel is None or not (channel._confirms.is_used or self._confirms_at_once and channel._confirms.is_on):
                 continue
             elif name == RETURN:
@@ -69,33 +86,30 @@ class Core:
         left, self._left = self._left, []
         for ticket, asked in left:
             try:
-                record = self._session.line(f"ticket {ticket}")
-            except Refused:  # an exception fell as it was read
+                reply = self._session.reply(ticket)
+            except (Refused, CallFailed):  # an exception fell as it was read, or it brought nothing
                 continue
-            if record == "pending":
+            if reply is None:
                 self._left.append((ticket, asked))
-            elif asked.undo is not None and not record.startswith("error "):
+            elif asked.undo is not None:
                 try:
-                    asked.undo(asked.read(record.split(" ")[1:]))
+                    asked.undo(asked.read(reply))
                 except Refused:  # its channel has ended, and all went back
                     pass
         self._ending = [consumer for consumer in self._ending if not consumer._give_back()]
 
-    def _leave(self, ticket: str, asked: Ask[Any]) -> None:
+    def _leave(self, ticket: int, asked: Ask[Any]) -> None:
         """Nobody waits for the answer of a call any more."""
         if asked.undo is not None and not self._is_lost:
             self._left.append((ticket, asked))
             return
-        try:
-            self._session.line(f"aside-ticket {ticket}")
-        except Refused:  # its answer was read
-            pass
+        self._session.forget_call(ticket)  # (nothing, where its answer was read)
 
     def _lost(self, why: str) -> None:
         """The connection is gone: each call and each publish that was open has its end."""
         self._is_lost, self._why = True, self._why or why
         try:
-            self._session.line("lost")
+            self._session.lost()
         except (Error, ValueError, MemoryError):  # the session has ended for want of memory, and tells nothing further
             for channel in self._channels.values():
                 channel._confirms.give_up()
@@ -108,6 +122,37 @@ class Core:
     def _lost_error(self) -> str:
         return f"the connection is {'closed' if self._is_closed else 'lost'}: {self._why}" if self._why else "the connection is closed"
 
+    def _news(self) -> Iterator[Tuple[Callable[[Any], Any], Any]]:
+        """The notices that are to be told, each once: what is called, and with what."""
+        if self.on_blocked is not None and self.is_blocked != self._was_blocked:
+            self._was_blocked = not self._was_blocked
+            yield self.on_blocked, self._was_blocked
+        while self._ended:
+            consumer = self._ended.pop(0)
+            if consumer.on_end is not None:
+                yield consumer.on_end, consumer
+        for number in list(self._returning) if self._returning else ():
+            channel, tell = self._channels[number], self._channels[number].on_return
+            if tell is None:  # (`wait_for_confirms` gives them)
+                del self._returning[number]
+            else:
+                self._untold += [(tell, returned) for returned in channel._strangers()]
+        while self._untold:
+            yield self._untold.pop(0)
+        while self._closes:
+            number = self._closes.pop()
+            closed = self._channels.get(number)
+            if closed is not None and closed.on_close is not None and not closed._is_leaving and self._session.state(number) == "closed":
+                closed._is_leaving = True
+                yield closed.on_close, Refused("InvalidChannelState closed", self._session.last_close(number))
+        yield from self._end_news()
+
+    def _end_news(self) -> Iterator[Tuple[Callable[[Any], Any], Any]]:
+        """The notice that the connection is gone."""
+        if self.on_close is not None and not self._is_end_told and not self.is_open:
+            self._is_end_told = True
+            yield self.on_close, ConnectionLost(self._lost_error(), self._session.last_close(0))
+
     # ---- calls
 
     def _hand_over(self) -> None:
@@ -118,21 +163,20 @@ class Core:
         """Waits until the broker has read enough of what was published."""
         raise NotImplementedError
 
-    def _ticket(self, asked: Ask[Any]) -> str:
+    def _ticket(self, asked: Ask[Any]) -> int:
         """Makes a call. What its answer is asked by."""
         try:
-            return self._session.line(asked.line).split(" ")[1]
+            return self._session.call(asked.channel, asked.method) if asked.method else self._session.limit(asked.channel, asked.limit)
         except Refused as error:
             raise Refused(error.words, self._reason(asked.channel, error.words)) from None
 
-    def _answer(self, asked: Ask[T], ticket: str) -> Optional[Tuple[T]]:
+    def _answer(self, asked: Ask[T], ticket: int) -> Optional[Tuple[T]]:
         """The value of a call's answer, if it is there."""
-        record = self._session.line(f"ticket {ticket}")
-        if record == "pending":
-            return None
-        if record.startswith("error "):
-            raise self._failed(record[6:], asked.channel)
-        return (asked.read(record.split(" ")[1:]),)
+        try:
+            reply = self._session.reply(ticket)
+        except CallFailed as error:
+            raise self._failed(error.words, asked.channel) from None
+        return None if reply is None else (asked.read(reply),)
 
     def _failed(self, words: str, channel: int) -> CallFailed:
         return CallFailed(words, self._reason(channel, words))
@@ -148,24 +192,21 @@ class Core:
     def _abandon(self, consumer: ConsumerCore) -> None:
         """Cancels a consumer that nobody has; what it was handed goes back."""
         consumer._is_ending = True
-        self._session.line(f"aside-ticket {self._ticket(_asks.cancel(consumer.channel.number, consumer.tag))}")
+        self._session.forget_call(self._ticket(_asks.cancel(consumer.channel.number, consumer.tag)))
         self._ending.append(consumer)
 
     # ---- channels
 
-    def _state(self, number: int) -> str:
-        return self._session.line(f"state {number}").split(" ")[2]
-
     def _number(self) -> int:
         """The number of a channel that is free."""
         for number in list(self._orphans):  # opened for nobody: closed, it is free again
-            if self._state(number) == "open":
-                self._session.line(f"aside-ticket {self._ticket(_asks.channel_close(number))}")
-            if self._state(number) == "closed":
+            if self._session.state(number) == "open":
+                self._session.forget_call(self._ticket(_asks.channel_close(number)))
+            if self._session.state(number) == "closed":
                 self._orphans.discard(number)
                 self._numbers.append(number)
         if not self._numbers and self._next >= self._channel_max:  # those that the broker closed are free again
-            self._numbers = [it for it in range(1, self._next + 1) if it not in self._orphans and self._state(it) == "closed"]
+            self._numbers = [it for it in range(1, self._next + 1) if it not in self._orphans and self._session.state(it) == "closed"]
         number = self._numbers.pop() if self._numbers else self._next + 1
         if number > self._channel_max:
             raise Refused("NoChannelLeft") if self.is_open else Refused("InvalidChannelState down", self._session.last_close(0))
@@ -175,7 +216,7 @@ class Core:
     def _beginning(self, number: int, confirms: bool, prefetch: Optional[int], limit: Optional[int]) -> List[Ask[None]]:
         """The calls that a channel begins with."""
         asked = [_asks.channel_open(number)]
-        if _text.flag("confirms", confirms) == "1":
+        if flag("confirms", confirms):
             asked.append(_asks.confirm_select(number))
         if limit is not None:
             asked.append(_asks.confirm_limit(number, limit))
@@ -188,7 +229,7 @@ class Core:
     @property
     def is_open(self) -> bool:
         """Whether channels can be opened and used."""
-        return not self._is_closed and self._session.line("state 0").split(" ")[1] == "open"
+        return not self._is_closed and self._session.is_open
 
     @property
     def is_blocked(self) -> bool:
@@ -200,18 +241,29 @@ class ChannelCore:
     """A channel that is open, or was."""
     connection: Core
     _confirm_of: Type[ConfirmCore]
+    #: Called once, with an error whose `reason` says why, where the broker closed the channel.
+    on_close: Optional[Callable[[Refused], Any]] = None
+    #: Called with each message that came back and that no confirm gives, as of a channel without confirms.
+    on_return: Optional[Callable[[Returned], Any]] = None
 
-    def __init__(self, connection: Core, number: int):
+    def __init__(self, connection: Core, by_tag: bool):
+        # What was handed on and isn't settled, by its tag, where somebody settles so.
+        self._given: Optional[Dict[int, Message]] = {} if flag("by_tag", by_tag) else None
+        number = connection._number()
         self.connection, self.number, self._session = connection, number, connection._session
         self._confirms = Confirms(self._session, self)
         self._look = self._confirms.look
         # Those of its consumers whose messages are to be acknowledged, and why it ended, once another one has its number.
         self._acking: Set[int] = set()
         self._is_over, self._ended_by = False, None  # type: bool, Optional[CloseReason]
+        # Its consumers by their tags; and whether it is closed here, or its end was told.
+        self._tags: Dict[str, ConsumerCore] = {}
+        self._is_leaving = False
         before = connection._channels.get(number)
         if before is not None:
             before._end()
         connection._channels[number] = self
+        connection._returning.pop(number, None)
 
     def _end(self) -> None:
         """Another channel takes its number: nothing that is called here goes there."""
@@ -232,7 +284,7 @@ class ChannelCore:
     @property
     def is_open(self) -> bool:
         """Whether calls of it are taken."""
-        return not self.connection._is_closed and not self._is_over and self.connection._state(self.number) == "open"
+        return not self.connection._is_closed and not self._is_over and self._session.state(self.number) == "open"
 
     def publish(self, exchange: str, routing_key: str, body: Union[bytes, bytearray, memoryview], *, mandatory: bool = False,
                 **properties: Any) -> ConfirmCore:
@@ -246,32 +298,33 @@ class ChannelCore:
             connection._make_room()
         if self._is_over:
             self._check()
-        octets = body if type(body) is bytes else _text.body_of(body)
+        octets = body if type(body) is bytes else body_of(body)
         confirm = self._confirm_of(self)
-        session, confirms, text = self._session, self._confirms, _text.properties(properties) if properties else b"[]"
+        session, confirms, listed = self._session, self._confirms, _octets.properties_of(properties) if properties else b"\0\0"
         if _here() != session._thread:
             raise session.elsewhere()
         try:
             to, key = exchange.encode(), routing_key.encode()
         except (AttributeError, ValueError):
-            to, key = _text.octets_of("exchange", exchange), _text.octets_of("routing_key", routing_key)
+            to, key = octets_of("exchange", exchange), octets_of("routing_key", routing_key)
         try:
-            if mandatory and _text.flag("mandatory", mandatory) == "1" and confirms.is_on:
-                confirms.expect(confirm, identity_of(to, key, text, octets))
+            if mandatory and flag("mandatory", mandatory) and confirms.is_on:
+                confirms.expect(confirm, identity_of(to, key, listed, octets))
             tag = confirms.tag + 1
             if confirms.is_on:
                 if tag > confirms.next:
                     confirms.prune()
                 confirms.open[tag] = confirm
-            status = _publish(session._by, self.number, to, len(to), key, len(key), mandatory, octets, len(octets), text, len(text), session._confirm_at)
+            status = _publish(session._by, self.number, to, len(to), key, len(key), mandatory, False, octets, len(octets), listed, len(listed),
+                              session._confirm_at)
             if status:
                 session.check(status)
             confirm._number = session.last = session._confirm.value
             confirms.tag = tag
         except BaseException as error:
             self._unmade(confirm, error)
-            _text.octets_of("exchange", to)
-            _text.octets_of("routing_key", key)
+            octets_of("exchange", to)
+            octets_of("routing_key", key)
             raise
         connection._waiting += len(octets) + 64
         if connection._waiting > connection._enough:
@@ -296,17 +349,50 @@ class ChannelCore:
             raise Refused("MultipleRefused: it would settle messages of another consumer of the channel that nobody has seen")
         return self._session.settle(call, acker, *marks)
 
-    def _got(self, words: List[str]) -> Optional[Message]:
-        """The message of a get, of its answer's words: got TAG EXCHANGE KEY REDELIVERED PROPS BYTES ACKER COUNT, or got -."""
-        if words[1] == "-":
+    def _got(self, reply: Reply, no_ack: bool) -> Optional[Message]:
+        """The message of a get."""
+        if reply.message is None:
             return None
-        return Message(lambda *call: self._settled(None, *call), int(words[1]), int(words[7]), words[4] == "1", _text.read_text(words[2]),
-                       _text.read_text(words[3]), words[5], _text.read_bytes(words[6]), int(words[8]))
+        return self._noted(Message(lambda *call: self._settled(None, *call), *reply.message, left=reply.messages), no_ack)
+
+    def _noted(self, message: Message, no_ack: bool) -> Message:
+        """A message that is handed on; where messages are settled by tags it is held until it is."""
+        if self._given is not None and not no_ack:
+            settle, tag, given = message._settle, message.delivery_tag, self._given
+            given[tag] = message
+
+            def settled(call: str, acker: int, *marks: bool) -> bool:
+                is_sent = settle(call, acker, *marks)
+                for it in list(takewhile(lambda at: at <= tag, given)) if marks[0] and call != "reject" else (tag,):
+                    given.pop(it, None)
+                return is_sent
+            message._settle = settled
+        return message
+
+    def _of_tag(self, tag: int) -> Optional[Message]:
+        if self._given is None:
+            raise ValueError("a channel settles by tags where it was opened with by_tag=True")
+        return self._given.get(whole("delivery_tag", tag, 0, (1 << 64) - 1))
+
+    def ack(self, delivery_tag: int, multiple: bool = False) -> bool:
+        """Acknowledges the message of a tag, of a channel with `by_tag`: as its `ack` does. False where it was settled before."""
+        message = self._of_tag(delivery_tag)
+        return message is not None and message.ack(multiple)
+
+    def nack(self, delivery_tag: int, requeue: bool = True, multiple: bool = False) -> bool:
+        """Gives back the message of a tag, as `ack`."""
+        message = self._of_tag(delivery_tag)
+        return message is not None and message.nack(requeue, multiple)
+
+    def reject(self, delivery_tag: int, requeue: bool = True) -> bool:
+        """Gives back the message of a tag, as `ack`."""
+        message = self._of_tag(delivery_tag)
+        return message is not None and message.reject(requeue)
 
     def _asked_get(self, queue: str, no_ack: bool) -> Ask[Optional[Message]]:
         asked = _asks.get(self.number, queue, no_ack)
         undo = None if no_ack else lambda message: message is not None and message.reject()
-        return Ask(self.number, asked.line, lambda words: self._got(asked.read(words)), undo)
+        return Ask(self.number, asked.method, lambda reply: self._got(reply, bool(no_ack)), undo)
 
     def _consumer(self, number: int, tag: str, no_ack: bool) -> ConsumerCore:
         """A consumer of this channel, of the number that the session gave it."""
@@ -321,22 +407,46 @@ class ChannelCore:
         asked.undo = lambda number: connection._abandon(self._consumer(number, tag, bool(no_ack)))
         return tag, asked
 
-    def _unconfirmed(self, record: str) -> List[Returned]:
-        """The messages that came back and that no confirm gives."""
-        words = record.split(" ")
+    def _unconfirmed(self) -> Optional[List[Returned]]:
+        """The messages that came back and that no confirm gives, once each publish has its outcome; None before."""
+        count = self._session.unclaimed(self.number)
+        if count is None:
+            return None
+        given = [it for place in range(count) if (it := came_back(self._session, place)) is not None]
         found, self._confirms.strangers = self._confirms.strangers, []
-        return found + [read_returned(words[at:at + 9]) for at in range(2, len(words), 9)]
+        return found + given
+
+    def _strangers(self) -> List[Returned]:
+        """The messages that came back and that no confirm gives, as far as they are there whole."""
+        owed = self.connection._returning
+        if self._confirms.is_on:
+            found, self._confirms.strangers = self._confirms.strangers, []
+            owed[self.number] = 0
+        else:
+            found = self._unconfirmed() or []
+            owed[self.number] -= len(found)
+        if owed[self.number] <= 0:
+            del owed[self.number]
+        return found
+
+    def _tagged(self, tag: str) -> Any:
+        """The consumer of this channel that has a tag."""
+        if tag not in self._tags:
+            raise ValueError(f"no consumer of this channel has the tag {tag!r}")
+        return self._tags[tag]
 
 
 class ConsumerCore:
     """A consumer of a channel."""
+    #: Called once with this consumer at its end: it was cancelled, here or by the broker, or its channel has ended.
+    on_end: Optional[Callable[[Any], Any]] = None
 
     def __init__(self, channel: ChannelCore, number: int, tag: str, no_ack: bool):
         self.channel, self.number, self.tag, self._no_ack = channel, number, tag, no_ack
         self._held: Optional[Message] = None
         self._is_done, self._is_ending = False, False
         self._error: Optional[Error] = None
-        channel.connection._consumers[number] = self
+        channel.connection._consumers[number] = channel._tags[tag] = self
         if not no_ack:
             channel._acking.add(number)
 
@@ -360,7 +470,7 @@ class ConsumerCore:
         if isinstance(found, str):
             self._end()
         elif found is not None:
-            self._held = Message(self._settled, *found)
+            self._held = self.channel._noted(Message(self._settled, *found), self._no_ack)
         connection._is_torn = was_torn
         return self._held
 
@@ -371,6 +481,10 @@ class ConsumerCore:
         self._is_done = True
         self.channel._acking.discard(self.number)
         self.channel.connection._consumers.pop(self.number, None)
+        if self.channel._tags.get(self.tag) is self:
+            del self.channel._tags[self.tag]
+            if self.on_end is not None:
+                self.channel.connection._ended.append(self)
 
     def _give_back(self) -> bool:
         """Gives back what it had, in the order in which that came. Whether it has ended."""

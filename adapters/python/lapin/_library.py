@@ -1,66 +1,75 @@
-"""The shared library: the opening of a connection, its heartbeats, and the session behind a handle. No socket lives here."""
+"""The shared library: the opening of a connection, its heartbeats, and the session behind a handle. No socket lives here.
+
+Calls and properties are AMQP's octets; what the session answers are numbers, and octets that are copied out.
+"""
 from __future__ import annotations
 
 import ctypes
 import os
 import threading
 import weakref
-from typing import Any, Optional, Tuple, Union
+from io import BytesIO
+from typing import Any, NamedTuple, Optional, Tuple, Union
 
-from .errors import CloseReason, Refused
+from ._structures import _Clock, _Fields, _Handle, _Message, _Opening, _Place, _Reason, _Refusal, _Return, _States
+from .errors import CallFailed, CloseReason, Refused
 
-DONE, REFUSED, NOT_IN_GRAMMAR, NO_MEMORY, ENDED, MALFORMED, TOO_LONG, CLOSED, PENDING, GONE, KEPT, UNTOLD = range(12)
-
-
-class _Handle(ctypes.Structure):
-    _fields_ = [("at", ctypes.c_void_p), ("is_open", ctypes.c_bool)]
-
-
-class _Opening(ctypes.Structure):
-    _fields_ = [("stage", ctypes.c_uint32), ("frame_max", ctypes.c_uint32), ("channel_max", ctypes.c_uint16), ("heartbeat", ctypes.c_uint16)]
-
-
-class _Clock(ctypes.Structure):
-    _fields_ = [("sent", ctypes.c_uint64), ("heard", ctypes.c_uint64), ("seconds", ctypes.c_uint16)]
-
-
-class _Message(ctypes.Structure):
-    _fields_ = [("delivery_tag", ctypes.c_uint64), ("acker", ctypes.c_uint64), ("exchange", ctypes.c_size_t), ("routing_key", ctypes.c_size_t),
-                ("properties", ctypes.c_size_t), ("body", ctypes.c_size_t), ("redelivered", ctypes.c_bool)]
+DONE, REFUSED, NOT_IN_GRAMMAR, NO_MEMORY, ENDED, MALFORMED, TOO_LONG, CLOSED, PENDING, GONE, KEPT = range(11)
+#: What a reply says, by its kind.
+CHANNEL, CONSUMER, MESSAGE, EMPTY, QUEUE = 1, 3, 4, 5, 6
+#: The states of a channel, by their numbers; OPEN of a connection is 0.
+STATES = ("closed", "opening", "open", "closing", "crossed", "base", "down")
+CONNECTION_OPEN = 0
+#: The words of a refusal by its kind, with the fields that it has.
+REFUSALS = ("", "NoMemory", "NumbersUsedUp", "InvalidChannelState {0}", "ProtocolError {1.code}", "ConnectionLost",
+            "UnexpectedFrame {1.class_id} {1.method_id}", "PreconditionFailed {1.tag} {1.current}", "AlreadyTaken", "UnknownTicket",
+            "ConfirmsOutstanding {1.limit}")
+ALREADY_TAKEN, UNKNOWN_TICKET = 8, 9
 
 
-class _Reason(ctypes.Structure):
-    _fields_ = [("code", ctypes.c_uint16), ("class_id", ctypes.c_uint16), ("method_id", ctypes.c_uint16)]
+#: The shared object: the one that LAPIN_LIBRARY names, or else that of the package.
+PATH = os.environ.get("LAPIN_LIBRARY") or os.path.join(os.path.dirname(os.path.abspath(__file__)), "liblapin.so")
 
 
 def _load() -> Any:
-    path = os.environ.get("LAPIN_LIBRARY") or os.path.join(os.path.dirname(os.path.abspath(__file__)), "liblapin.so")
-    library = ctypes.PyDLL(path)  # the interpreter's lock is kept: two threads are never behind one handle
-    handle, size, text, code = ctypes.POINTER(_Handle), ctypes.c_size_t, ctypes.c_char_p, ctypes.c_uint32
-    number, flag, short = ctypes.c_uint64, ctypes.c_bool, ctypes.c_uint16
+    library = ctypes.PyDLL(PATH)  # the interpreter's lock is kept: two threads are never behind one handle
+    size, text, code, flag, short = ctypes.c_size_t, ctypes.c_char_p, ctypes.c_uint32, ctypes.c_bool, ctypes.c_uint16
+    # An address, a size and a number of 64 bits are given as a pointer is, which is as wide on the machines of the library. ctypes takes a whole
+    # number for a pointer at once; of the types of numbers and of addresses it first asks whether it was given an object of that type, at two to
+    # three times the price. Who gives an address holds the object.
+    handle = address = length = number = ctypes.c_void_p
     calls: Tuple[Tuple[str, Any, Any], ...] = (
         ("version", text, []),
         ("open", code, [handle, ctypes.c_uint32]),
         ("close", None, [handle]),
-        ("line", code, [handle, text, size]),
+        ("why", code, [handle, address]),
         ("answer_length", size, [handle]),
-        ("answer", size, [handle, ctypes.c_void_p, size]),
-        ("publish", code, [handle, short, text, size, text, size, flag, text, size, text, size, ctypes.POINTER(number)]),
+        ("answer", size, [handle, address, length]),
+        ("call", code, [handle, short, text, length, address]),
+        ("limit", code, [handle, short, number, address]),
+        ("reply", code, [handle, number, address]),
+        ("forget_call", code, [handle, number]),
+        ("publish", code, [handle, short, text, length, text, length, flag, flag, text, length, text, length, address]),
         ("outcome", code, [handle, number]),
+        ("confirmed", code, [handle, number, address]),
+        ("unclaimed", code, [handle, short, address]),
+        ("return_at", code, [handle, length, address]),
         ("forget", code, [handle, number]),
-        ("delivery", code, [handle, number, ctypes.POINTER(_Message)]),
+        ("delivery", code, [handle, number, address]),
         ("ack", code, [handle, number, flag]),
         ("nack", code, [handle, number, flag, flag]),
         ("reject", code, [handle, number, flag]),
-        ("send", code, [handle, flag, size]),
+        ("send", code, [handle, flag, length]),
         ("leaving_length", size, [handle]),
-        ("leaving", size, [handle, ctypes.c_void_p, size]),
-        ("receive", code, [handle, text, size]),
+        ("leaving", size, [handle, address, length]),
+        ("receive", code, [handle, text, length]),
+        ("lost", code, [handle]),
+        ("state", code, [handle, short, address]),
         ("is_blocked", flag, [handle]),
-        ("last_close", code, [handle, short, ctypes.POINTER(_Reason)]),
-        ("shake", code, [ctypes.POINTER(_Opening), text, size, text, size, text, size, text, size, ctypes.c_void_p, size, ctypes.POINTER(size),
-                         ctypes.POINTER(short)]),
-        ("beat", code, [ctypes.POINTER(_Clock), number, ctypes.POINTER(number)]),
+        ("last_close", code, [handle, short, address]),
+        ("shake", code, [address, text, length, text, length, text, length, text, length, text, length, address, length, address, address]),
+        ("server_properties", code, [text, length, address]),
+        ("beat", code, [address, number, address]),
     )
     for name, result, given in calls:
         function: Any = getattr(library, f"lapin_{name}")
@@ -77,6 +86,8 @@ def library_version() -> str:
     return words.decode()
 
 
+#: So many octets of an answer are copied once, and smaller ones as they are cut.
+LARGE = 1 << 18
 _publish = _library.lapin_publish
 _outcome = _library.lapin_outcome
 _here = threading.get_ident
@@ -85,10 +96,11 @@ _here = threading.get_ident
 class Opening:
     """The first frames of a connection. Bytes of the broker go in, bytes for it come out."""
 
-    def __init__(self, user: bytes, password: bytes, vhost: bytes, frame_max: int, channel_max: int, heartbeat: int):
-        self._who = (user, len(user), password, len(password), vhost, len(vhost))
-        self._state = _Opening(0, frame_max, channel_max, heartbeat)
-        self._room = ctypes.create_string_buffer(1024 + 2 * (len(user) + len(password) + len(vhost)))
+    def __init__(self, user: bytes, password: bytes, vhost: bytes, frame_max: int, channel_max: int, heartbeat: int, mechanism: int = 0,
+                 pairs: bytes = b""):
+        self._who = (user, len(user), password, len(password), vhost, len(vhost), pairs, len(pairs))
+        self._state = _Opening(0, frame_max, channel_max, heartbeat, mechanism)
+        self._room = ctypes.create_string_buffer(1024 + 2 * (len(user) + len(password) + len(vhost)) + len(pairs))
         self._written, self._code = ctypes.c_size_t(), ctypes.c_uint16()
 
     @property
@@ -104,6 +116,20 @@ class Opening:
     def limits(self) -> Tuple[int, int, int]:
         """The greatest frame, the greatest channel and the seconds between heartbeats, on which both sides agreed."""
         return self._state.frame_max, self._state.channel_max, self._state.heartbeat
+
+    @property
+    def mechanism(self) -> int:
+        """The mechanism that is wanted, and once one was said, that one."""
+        mechanism: int = self._state.mechanism
+        return mechanism
+
+    @staticmethod
+    def server_properties(data: bytes) -> bytes:
+        """The octets of the broker's properties, where the frame at the head of the bytes tells them; else none."""
+        place = _Place()
+        if _library.lapin_server_properties(data, len(data), ctypes.byref(place)) != DONE:
+            return b""
+        return data[place.at:place.at + place.count]
 
     def shake(self, data: bytes) -> Tuple[int, bytes, int]:
         """What became of the frame at the head of the bytes, what is answered, and the code of a refusal."""
@@ -142,16 +168,35 @@ def _forked() -> None:
 os.register_at_fork(after_in_child=_forked)
 
 
+#: A message: its delivery tag, its acker, whether it was redelivered, its exchange, its routing key, its list of properties and its body.
+Parts = Tuple[int, int, bool, str, str, bytes, bytes]
+
+
+class Reply(NamedTuple):
+    """What the reply of a call says; what a kind has not is 0, empty or None."""
+    kind: int
+    number: int
+    messages: int
+    consumers: int
+    text: str
+    message: Optional[Parts]
+
+
 class Session:
     """One connection's session. Used by the thread that made it, and by no other one."""
 
     def __init__(self, frame_max: int):
         self._handle = _Handle(None, False)
-        self._by = ctypes.byref(self._handle)
+        self._by = ctypes.addressof(self._handle)
         self._room = ctypes.create_string_buffer(1 << 16)
         self._size = len(self._room)
         self._confirm, self._message, self._reason = ctypes.c_uint64(), _Message(), _Reason()
-        self._confirm_at, self._message_at, self._reason_at = (ctypes.byref(it) for it in (self._confirm, self._message, self._reason))
+        self._ticket, self._fields, self._refusal, self._states = ctypes.c_uint64(), _Fields(), _Refusal(), _States()
+        self._number, self._return = ctypes.c_uint64(), _Return()
+        self._number_at, self._return_at = ctypes.addressof(self._number), ctypes.addressof(self._return)
+        self._confirm_at, self._message_at, self._reason_at = (ctypes.addressof(it) for it in (self._confirm, self._message, self._reason))
+        self._ticket_at, self._fields_at = ctypes.addressof(self._ticket), ctypes.addressof(self._fields)
+        self._refusal_at, self._states_at = ctypes.addressof(self._refusal), ctypes.addressof(self._states)
         self._thread, self.is_forked = _here(), False
         #: The number of the last publish that its caller was told, and by `last_confirm` of the last that was accepted.
         self.last = 0
@@ -187,8 +232,6 @@ class Session:
             raise Refused(self.refusal())
         if status in (NO_MEMORY, KEPT):
             raise MemoryError
-        if status == UNTOLD:
-            raise Refused("Untold: there was no memory for the words")
         if status == TOO_LONG:
             raise ValueError("longer than a frame may be")
         if status == CLOSED:
@@ -205,25 +248,95 @@ class Session:
     def _answer(self) -> bytes:
         return self._take(_library.lapin_answer_length(self._by), _library.lapin_answer)
 
-    def _line(self) -> str:
-        return self._answer().decode(errors="replace").rstrip("\n")
+    def _parts(self, found: Any, behind: int = 0) -> Parts:
+        """The message that is the answer, with so many octets behind its body."""
+        exchange, key, listed = found.exchange, found.routing_key, found.properties
+        names = exchange + key
+        head = names + listed
+        if head + found.body > LARGE:
+            data, body = self._split(head, found.body + behind)
+        else:
+            data = self._answer()
+            body = data[head:]
+        return (found.delivery_tag, found.acker, found.redelivered, data[:exchange].decode(errors="replace"),
+                data[exchange:names].decode(errors="replace"), data[names:head], body)
 
-    def line(self, line: str) -> str:
-        """The record's line of a line of docs/FORMAT.md. A refusal is raised."""
+    def _split(self, head: int, body: int) -> Tuple[bytes, bytes]:
+        """The answer as its first octets and its others, which are copied once: they move to the front of what was copied, and are that."""
+        room = BytesIO()
+        room.seek(head + body - 1)
+        room.write(b"\0")
+        with room.getbuffer() as view:
+            held = (ctypes.c_char * (head + body)).from_buffer(view)
+            at = ctypes.addressof(held)
+            _library.lapin_answer(self._by, at, head + body)
+            first = ctypes.string_at(at, head)
+            ctypes.memmove(at, at + head, body)
+            del held
+        room.truncate(body)
+        return first, room.getvalue()
+
+    def call(self, channel: int, method: bytes) -> int:
+        """Makes the call of a method, its class, its number and its arguments. What its reply is asked by."""
         if _here() != self._thread:
             raise self.elsewhere()
-        given = line.encode()
-        self.check(_library.lapin_line(self._by, given, len(given)))
-        answer = self._line()
-        if answer.startswith("refused "):
-            raise Refused(answer[8:])
-        return answer
+        self.check(_library.lapin_call(self._by, channel, method, len(method), self._ticket_at))
+        return self._ticket.value
 
-    def publish(self, channel: int, exchange: bytes, routing_key: bytes, body: bytes, properties: bytes = b"[]", mandatory: bool = False) -> int:
+    def limit(self, channel: int, limit: int) -> int:
+        """So many publishes of a channel may be outstanding. What the reply is asked by."""
+        self.check_thread()
+        self.check(_library.lapin_limit(self._by, channel, limit, self._ticket_at))
+        return self._ticket.value
+
+    def reply(self, ticket: int) -> Optional[Reply]:
+        """The reply of a call, given once; None where there is none yet. A call that failed is raised, and one whose reply was given is refused."""
+        if _here() != self._thread:
+            raise self.elsewhere()
+        status = _library.lapin_reply(self._by, ticket, self._fields_at)
+        if status == PENDING:
+            return None
+        if status == REFUSED:
+            words = self.refusal()
+            raise Refused(words) if self._refusal.kind in (ALREADY_TAKEN, UNKNOWN_TICKET) else CallFailed(words)
+        self.check(status)
+        found = self._fields
+        kind: int = found.kind
+        text = self._answer().decode(errors="replace") if kind in (QUEUE, CONSUMER) else ""
+        return Reply(kind, found.number, found.messages, found.consumers, text, self._parts(found.message) if kind == MESSAGE else None)
+
+    def forget_call(self, ticket: int) -> bool:
+        """The reply of a call will not be asked for any more. Whether it was owed."""
+        self.check_thread()
+        status = _library.lapin_forget_call(self._by, ticket)
+        if status == GONE:
+            return False
+        self.check(status)
+        return True
+
+    def lost(self) -> None:
+        """The connection is gone: all that is open fails."""
+        self.check_thread()
+        self.check(_library.lapin_lost(self._by))
+
+    def state(self, channel: int) -> str:
+        """The state of a channel."""
+        if _here() != self._thread:
+            raise self.elsewhere()
+        self.check(_library.lapin_state(self._by, channel, self._states_at))
+        return STATES[self._states.channel]
+
+    @property
+    def is_open(self) -> bool:
+        """Whether the connection is open."""
+        self.state(0)
+        return bool(self._states.connection == CONNECTION_OPEN)
+
+    def publish(self, channel: int, exchange: bytes, routing_key: bytes, body: bytes, properties: bytes = b"\0\0", mandatory: bool = False) -> int:
         """The number of the confirm of a publish."""
         if _here() != self._thread:
             raise self.elsewhere()
-        status = _publish(self._by, channel, exchange, len(exchange), routing_key, len(routing_key), mandatory, body, len(body),
+        status = _publish(self._by, channel, exchange, len(exchange), routing_key, len(routing_key), mandatory, False, body, len(body),
                           properties, len(properties), self._confirm_at)
         if status:
             self.check(status)
@@ -236,25 +349,58 @@ class Session:
         return number
 
     def outcome(self, confirm: int) -> int:
-        """Of a confirm, and given once: 1 an ack, 2 a nack, 3 none was asked for, 4 an error, whose words `refusal` has, 5 one for whose words
-        there was no memory; 0 where there is none yet, or where the line of the poll tells more."""
+        """Of a confirm, and given once: 1 an ack, 2 a nack, 3 none was asked for, 4 an error, whose words `refusal` has; 0 where there is none yet,
+        or where a message came back, so that `confirmed` tells more."""
         if _here() != self._thread:
             raise self.elsewhere()
         found: int = _outcome(self._by, confirm)
         return found
 
+    def confirmed(self, confirm: int) -> int:
+        """The same of each confirm. 0 where there is none yet; one that was given, or never will be, is refused. `return_at` has what came back."""
+        if _here() != self._thread:
+            raise self.elsewhere()
+        status = _library.lapin_confirmed(self._by, confirm, self._number_at)
+        if status == PENDING:
+            return 0
+        self.check(status)
+        return self._number.value
+
+    def unclaimed(self, channel: int) -> Optional[int]:
+        """How many messages came back that no outcome has, which `return_at` has then; None while a publish of the channel has no outcome."""
+        self.check_thread()
+        status = _library.lapin_unclaimed(self._by, channel, self._number_at)
+        if status == PENDING:
+            return None
+        self.check(status)
+        return self._number.value
+
+    def return_at(self, place: int) -> Optional[Tuple[int, str, Parts]]:
+        """A message that came back, by its place among those that were told of last: why, by number and words, and the message. None where none
+        is there."""
+        self.check_thread()
+        status = _library.lapin_return_at(self._by, place, self._return_at)
+        if status == PENDING:
+            return None
+        self.check(status)
+        found, body = self._return, self._return.message.body
+        parts = self._parts(found.message, found.text)
+        return found.code, parts[6][body:].decode(errors="replace"), parts[:6] + (parts[6][:body],)
+
     def refusal(self) -> str:
         """The words of the last error or refusal."""
-        return self._line().removeprefix("refused ")
+        if _library.lapin_why(self._by, self._refusal_at) != DONE:
+            return ""
+        state = self._refusal.state
+        return REFUSALS[self._refusal.kind].format(STATES[state] if state < len(STATES) else state, self._refusal)
 
     def forget(self, confirm: int) -> None:
         """The confirm will not be asked for any more."""
         self.check_thread()
         _library.lapin_forget(self._by, confirm)
 
-    def delivery(self, consumer: int) -> Union[None, str, Tuple[int, int, bool, str, str, bytes, bytes]]:
-        """What a consumer was handed next: the numbers, the exchange, the routing key, the text of the properties and the body. None
-        where there is nothing yet, and `end` at its end; an error that ended its channel is raised."""
+    def delivery(self, consumer: int) -> Union[None, str, Parts]:
+        """What a consumer was handed next. None where there is nothing yet, and `end` at its end; an error that ended its channel is raised."""
         if _here() != self._thread:
             raise self.elsewhere()
         status = _library.lapin_delivery(self._by, consumer, self._message_at)
@@ -264,11 +410,7 @@ class Session:
             return "end"
         if status:
             self.check(status)
-        found, answer = self._message, self._answer()
-        key = found.exchange + found.routing_key
-        body = key + found.properties
-        return (found.delivery_tag, found.acker, found.redelivered, answer[:found.exchange].decode(errors="replace"),
-                answer[found.exchange:key].decode(errors="replace"), answer[key:body], answer[body:])
+        return self._parts(self._message)
 
     def settle(self, call: str, acker: int, *marks: bool) -> bool:
         """Calls an acker. Whether the call is sent: not where it was used before, or its channel has ended."""
@@ -299,8 +441,6 @@ class Session:
             return None
         if status == REFUSED:
             return self.refusal()
-        if status == UNTOLD:
-            return "Untold"
         if status == MALFORMED:
             raise ValueError("what came is no frame")
         self.check(status)

@@ -2,9 +2,12 @@
 from __future__ import annotations
 
 from dataclasses import dataclass
-from typing import Any, Callable, Dict, List, NamedTuple, Optional, Union
+from functools import cached_property
+from typing import Any, Callable, Dict, NamedTuple, Optional
 
-from . import _text
+from ._arguments import flag
+from ._octets import Malformed, read_properties
+from .errors import MalformedProperties
 
 
 class Queue(NamedTuple):
@@ -17,6 +20,14 @@ class Queue(NamedTuple):
         return self.name
 
 
+def named(octets: bytes) -> Dict[str, Any]:
+    """Properties by their names, of their octets."""
+    try:
+        return read_properties(octets)
+    except Malformed as error:
+        raise MalformedProperties(f"MalformedProperties: {error}") from error
+
+
 @dataclass(frozen=True)
 class Returned:
     """A message that came back, since no queue wanted it."""
@@ -24,8 +35,13 @@ class Returned:
     reply_text: str
     exchange: str
     routing_key: str
-    properties: Dict[str, Any]
+    properties_octets: bytes
     body: bytes
+
+    @cached_property
+    def properties(self) -> Dict[str, Any]:
+        """Its properties, as of a `Message`."""
+        return named(self.properties_octets)
 
 
 @dataclass(frozen=True, eq=False)
@@ -52,11 +68,14 @@ class Outcome:
 
 class Message:
     """A message that a consumer or a get was given. One of `ack`, `nack` and `reject` settles it, once."""
-    __slots__ = ("_settle", "_acker", "_properties", "delivery_tag", "redelivered", "exchange", "routing_key", "body", "left")
+    __slots__ = ("_settle", "_acker", "_properties", "properties_octets", "delivery_tag", "redelivered", "exchange", "routing_key", "body", "left")
 
     def __init__(self, settle: Callable[..., bool], delivery_tag: int, acker: int, redelivered: bool, exchange: str, routing_key: str,
-                 properties: Union[str, bytes, Dict[str, Any]], body: bytes, left: Optional[int] = None):
-        self._settle, self._acker, self._properties = settle, acker, properties
+                 properties_octets: bytes, body: bytes, left: Optional[int] = None):
+        self._settle, self._acker = settle, acker
+        self._properties: Optional[Dict[str, Any]] = None
+        #: Its list of properties as it came: flags, and what they say is there.
+        self.properties_octets = properties_octets
         self.delivery_tag, self.redelivered, self.exchange, self.routing_key, self.body = delivery_tag, redelivered, exchange, routing_key, body
         #: Of a message of `get`: how many the queue still has.
         self.left = left
@@ -66,40 +85,26 @@ class Message:
 
     @property
     def properties(self) -> Dict[str, Any]:
-        """Its properties, by their names: `headers`, `reply_to`, `correlation_id` .."""
-        if not isinstance(self._properties, dict):
-            self._properties = _text.read_properties(self._properties)
+        """Its properties, by their names: `headers`, `reply_to`, `correlation_id` .. A text that is no UTF-8 comes as bytes. Octets that are no list
+        of properties are a `MalformedProperties`, which names the fault: `properties_octets` has them, and the message can be settled as any."""
+        if self._properties is None:
+            self._properties = named(self.properties_octets)
         return self._properties
 
     def ack(self, multiple: bool = False) -> bool:
         """Acknowledges it, with `multiple` all of its channel up to it too. Whether that is sent: not where it was settled before, or its
         channel has ended; then the broker delivers it again. `multiple` is refused while another consumer of the channel has messages to
         acknowledge, and of a message of `get` while any has: it would settle messages that nobody has seen."""
-        return self._settle("ack", self._acker, _text.flag("multiple", multiple) == "1")
+        return self._settle("ack", self._acker, flag("multiple", multiple))
 
     def nack(self, requeue: bool = True, multiple: bool = False) -> bool:
         """Gives it back, with `multiple` all of its channel up to it too. Whether that is sent, and when `multiple` is refused, as of `ack`."""
-        return self._settle("nack", self._acker, _text.flag("multiple", multiple) == "1", _text.flag("requeue", requeue) == "1")
+        return self._settle("nack", self._acker, flag("multiple", multiple), flag("requeue", requeue))
 
     def reject(self, requeue: bool = True) -> bool:
         """Gives it back. Whether that is sent, as of `ack`."""
-        return self._settle("reject", self._acker, _text.flag("requeue", requeue) == "1")
+        return self._settle("reject", self._acker, flag("requeue", requeue))
 
 
 #: The outcomes of publishes that didn't come back, by the number that the session gives.
 BY_NUMBER = dict(enumerate(map(Outcome, ("ack", "nack", "notrequested")), 1))
-BY_KIND = {outcome.kind: outcome for outcome in BY_NUMBER.values()}
-
-
-def read_returned(words: List[str]) -> Returned:
-    """A message of a record: TAG EXCHANGE KEY REDELIVERED PROPS BYTES ACKER CODE TEXT."""
-    return Returned(int(words[7]), _text.read_text(words[8]), _text.read_text(words[1]), _text.read_text(words[2]),
-                    _text.read_properties(words[4]), _text.read_bytes(words[5]))
-
-
-def read_queue(words: List[str]) -> Queue:
-    return Queue(_text.read_text(words[1]), int(words[2]), int(words[3]))
-
-
-def read_count(words: List[str]) -> int:
-    return int(words[1])

@@ -11,14 +11,15 @@ import time
 from collections import deque
 from typing import Deque, Optional, Tuple, Union
 
-from ._library import DONE, PENDING, REFUSED, Clock, Opening
-from ._urls import Target
+from ._library import DONE, NO_MEMORY, PENDING, REFUSED, Clock, Opening
+from ._opened import Agreed
+from ._sockets import addresses_of, configured, dialled
+from ._urls import MECHANISMS, Target
 from .errors import ConnectionLost, OpeningFailed
 
 HEADER = b"AMQP\x00\x00\x09\x01"
 HEARTBEAT = b"\x08\x00\x00\x00\x00\x00\x00\xce"
-CAUSES = {540: "another version of the protocol", 403: "PLAIN isn't one of its mechanisms", 530: "its frames are too small",
-          503: "an unexpected method", 501: "what came is no frame"}
+CAUSES = {540: "another version of the protocol", 530: "its frames are too small", 503: "an unexpected method", 501: "what came is no frame"}
 #: The socket has nothing to read, or no room to write.
 NOT_NOW = (BlockingIOError, ssl.SSLWantReadError, ssl.SSLWantWriteError)
 SILENT = "the broker was silent for two heartbeats"
@@ -33,8 +34,23 @@ class Greeter:
     """An opening that is fed: `outgoing` is to be sent, and what came behind the opening stays in `data`."""
 
     def __init__(self, target: Target):
-        self.opening = Opening(target.user, target.password, target.vhost, target.frame_max, target.channel_max, target.heartbeat)
-        self.outgoing, self.data = HEADER, b""
+        self.opening = Opening(target.user, target.password, target.vhost, target.frame_max, target.channel_max, target.heartbeat, target.mechanism,
+                               target.pairs)
+        self.outgoing, self.data, self.server_properties = HEADER, b"", b""
+        self._check(self.opening.shake(b"")[0])  # what can't be told is refused before anything is sent
+
+    def _check(self, status: int) -> None:
+        if status == NO_MEMORY:
+            raise MemoryError
+        if status not in (DONE, PENDING):
+            raise OpeningFailed("the user, the password, the virtual host or client_properties is too long, or client_properties is no table")
+
+    def _cause(self, code: int) -> str:
+        """What a code of the library says."""
+        if code == 403:
+            word = MECHANISMS[self.opening.mechanism]
+            return f"{word} isn't one of its mechanisms" if word != "PLAIN" else "neither PLAIN nor AMQPLAIN is one of its mechanisms"
+        return CAUSES.get(code, "closed")
 
     def feed(self, data: bytes) -> bool:
         """Takes bytes of the broker. Whether the connection is open."""
@@ -42,20 +58,28 @@ class Greeter:
         if self.data[:4] == b"AMQP":
             raise OpeningFailed("the broker speaks another version")
         while self.data and not self.opening.is_open:
+            was_first = self.opening.stage == 0
             status, reply, code = self.opening.shake(self.data)
             self.outgoing += reply
             if status == PENDING:
                 return False
             if status == REFUSED:
                 text = f": {self.data[14:14 + self.data[13]].decode(errors='replace')}" if self.data[7:11] == b"\x00\x0a\x00\x32" else ""
-                raise OpeningFailed(f"refused {code}{text or ': ' + CAUSES.get(code, 'closed')}")
-            if status != DONE:
-                raise OpeningFailed("the user, the password or the virtual host is too long")
+                raise OpeningFailed(f"refused {code}{text or ': ' + self._cause(code)}")
+            self._check(status)
+            if was_first:
+                self.server_properties = self.server_properties or self.opening.server_properties(self.data)
             self.data = self.data[int.from_bytes(self.data[3:7], "big") + 8:]
         return self.opening.is_open
 
+    @property
+    def agreed(self) -> Agreed:
+        """What both sides agreed on."""
+        return Agreed(*self.opening.limits, MECHANISMS[self.opening.mechanism], self.server_properties)
+
     def gone(self) -> OpeningFailed:
-        words = ("nothing answered", "a wrong user or password", "a wrong virtual host")[min(self.opening.stage, 2)]
+        told = "this caller isn't known to it" if MECHANISMS[self.opening.mechanism] == "EXTERNAL" else "a wrong user or password"
+        words = ("nothing answered", told, "a wrong virtual host")[min(self.opening.stage, 2)]
         return OpeningFailed(f"the broker hung up: {words}")
 
 
@@ -76,14 +100,20 @@ class _Opener:
 
     def connected(self) -> Union[socket.socket, ssl.SSLSocket]:
         failed: Optional[OSError] = None
-        for family, kind, protocol, _, address in socket.getaddrinfo(self.target.host, self.target.port, type=socket.SOCK_STREAM):
+        target = self.target
+        if target.dial is not None:
+            sock = dialled(target.dial(target.host, target.port))
+            try:
+                return self.prepared(sock)
+            except BaseException:
+                sock.close()
+                raise
+        for family, kind, protocol, _, address in socket.getaddrinfo(target.host, target.port, type=socket.SOCK_STREAM):
             sock = socket.socket(family, kind, protocol)
             try:
-                sock.settimeout(self.left())
+                sock.settimeout(min((it for it in (self.left(), target.socket_timeout) if it is not None), default=None))
                 sock.connect(address)
-                sock.setsockopt(socket.IPPROTO_TCP, socket.TCP_NODELAY, 1)
-                sock.setblocking(False)
-                return sock if self.target.tls is None else self.secured(sock, self.target.tls)
+                return self.prepared(sock)
             except OSError as error:
                 sock.close()
                 failed = error
@@ -92,8 +122,14 @@ class _Opener:
                 raise
         raise failed or OSError("its host has no address")
 
+    def prepared(self, sock: socket.socket) -> Union[socket.socket, ssl.SSLSocket]:
+        """A socket that is connected, as it is used."""
+        configured(sock, self.target)
+        sock.setblocking(False)
+        return sock if self.target.tls is None else self.secured(sock, self.target.tls)
+
     def secured(self, sock: socket.socket, context: ssl.SSLContext) -> ssl.SSLSocket:
-        secure = context.wrap_socket(sock, server_hostname=self.target.host, do_handshake_on_connect=False)
+        secure = context.wrap_socket(sock, server_hostname=self.target.server_name or self.target.host, do_handshake_on_connect=False)
         try:
             while True:
                 try:
@@ -158,9 +194,9 @@ class Wire:
         except BaseException:
             self.socket.close()
             raise
-        self.frame_max, self.channel_max, heartbeat = greeter.opening.limits
+        self.agreed, self.addresses = greeter.agreed, addresses_of(self.socket)
         # The clock is told when octets were sent and heard last as it is asked; before `_quiet` nothing is due.
-        self._clock, self._came = Clock(now(), heartbeat), greeter.data
+        self._clock, self._came = Clock(now(), self.agreed.heartbeat), greeter.data
         self._sent = self._heard = self._quiet = time.monotonic()
         self._queue: Deque[memoryview] = deque()
         #: How many octets wait for the kernel, and whether a heartbeat is to be sent.

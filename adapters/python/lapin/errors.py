@@ -17,8 +17,8 @@ class CloseReason(NamedTuple):
 
 
 #: The methods at which a broker closes, by the standard's numbers.
-METHODS = {(10, 40): "connection.open", (20, 10): "channel.open", (40, 10): "exchange.declare", (40, 20): "exchange.delete", (40, 30): "exchange.bind",
-           (50, 10): "queue.declare", (50, 20): "queue.bind", (50, 30): "queue.purge", (50, 40): "queue.delete", (50, 50): "queue.unbind",
+METHODS = {(10, 40): "connection.open", (20, 10): "channel.open", (20, 20): "channel.flow", (40, 10): "exchange.declare", (40, 20): "exchange.delete", (40, 30): "exchange.bind",
+           (40, 40): "exchange.unbind", (50, 10): "queue.declare", (50, 20): "queue.bind", (50, 30): "queue.purge", (50, 40): "queue.delete", (50, 50): "queue.unbind",
            (60, 10): "basic.qos", (60, 20): "basic.consume", (60, 30): "basic.cancel", (60, 40): "basic.publish", (60, 70): "basic.get",
            (60, 80): "basic.ack", (60, 90): "basic.reject", (60, 110): "basic.recover", (60, 120): "basic.nack", (85, 10): "confirm.select",
            (90, 10): "tx.select", (90, 20): "tx.commit", (90, 30): "tx.rollback"}
@@ -52,6 +52,10 @@ class CallFailed(Error):
 
 class ConnectionLost(Error):
     """The TCP connection is gone: hung up, silent for two heartbeats, or what came was no frame. Calls that were open have failed."""
+
+
+class MalformedProperties(Error, ValueError):
+    """The octets of a message's properties are no list of properties. `properties_octets` of the message has them; it can be settled as any."""
 
 
 class OpeningFailed(Error):

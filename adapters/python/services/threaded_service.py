@@ -1,0 +1,69 @@
+"""A web service with threads, as gunicorn's way is: threaded_service.py URL PORT. `POST /send/KEY` publishes its body, and answers 200 once the
+broker answers for it.
+
+A connection has one thread, so each thread of the pool has its own: it is opened at its first request, behind the fork of a server that forks, and
+again where it was lost. `heartbeat=0`, since a thread may be without a request for long; that the broker is gone is met by the next request.
+"""
+import sys
+import threading
+from concurrent.futures import ThreadPoolExecutor
+from http.server import BaseHTTPRequestHandler, HTTPServer
+
+import lapin
+
+MINE = threading.local()
+URL, PORT = sys.argv[1], int(sys.argv[2])
+
+
+def channel():
+    """This thread's channel with confirms."""
+    held = getattr(MINE, "channel", None)
+    if held is None or not held.is_open:
+        connection = lapin.connect(URL, heartbeat=0, connection_name="threaded_service")
+        held = MINE.channel = connection.channel(confirms=True)
+        held.queue_declare("services", durable=True)
+    return held
+
+
+def sent(key, body):
+    """Whether a queue has the message; once more where the connection was lost, under the same message_id."""
+    for _ in range(2):
+        try:
+            return bool(channel().publish("", "services", body, mandatory=True, delivery_mode=2, message_id=key).wait(10))
+        except (lapin.Error, OSError):
+            MINE.channel = None
+    return False
+
+
+class Handler(BaseHTTPRequestHandler):
+    def do_POST(self):
+        body = self.rfile.read(int(self.headers.get("Content-Length", 0)))
+        is_sent = sent(self.path[6:], body) if self.path.startswith("/send/") else None
+        self.send_response(404 if is_sent is None else 200 if is_sent else 503)
+        self.send_header("Content-Length", "0")
+        self.end_headers()
+
+    def log_message(self, *_):
+        """Nothing is said of a request."""
+
+
+class Pooled(HTTPServer):
+    """A server whose requests are worked on by a pool of threads."""
+    request_queue_size = 64
+    pool = ThreadPoolExecutor(4)
+
+    def process_request(self, request, client_address):
+        self.pool.submit(self.worked_on, request, client_address)
+
+    def worked_on(self, request, client_address):
+        try:
+            self.finish_request(request, client_address)
+        finally:
+            self.shutdown_request(request)
+
+
+with Pooled(("127.0.0.1", PORT), Handler) as server:
+    print("ready", server.server_address[1], flush=True)
+    threading.Thread(target=server.serve_forever, daemon=True).start()
+    sys.stdin.read()
+    server.shutdown()
