@@ -10,6 +10,7 @@ passes fails, so that its mark is taken away.
 """
 import collections
 import importlib
+import importlib.util
 import os
 import shutil
 import signal
@@ -25,7 +26,8 @@ import rabbitmq  # noqa: E402
 from checks.common import BIN, TESTS  # noqa: E402
 
 # They name the package, which loads the shared object.
-PARTS = ("openings", "arguments", "publishes", "returns", "consumers", "endings", "patience", "interrupted", "asynchronous", "documents", "held", "in_c", "with_rabbitmq")
+PARTS = ("openings", "arguments", "values", "publishes", "returns", "consumers", "notices", "endings", "patience", "interrupted", "asynchronous",
+         "documents", "held", "in_c", "in_rust", "with_rabbitmq", "packaging", "with_celery", "services")
 
 
 def library_at(out):
@@ -43,7 +45,9 @@ def lacks(it):
     """What a test needs and isn't here."""
     if hasattr(it, "needs_rabbitmq") and not rabbitmq.is_installed():
         return "RabbitMQ"
-    return next((name for name in getattr(it, "needs", ()) if shutil.which(name) is None), None)
+    missing = [name for name in getattr(it, "needs", ()) if shutil.which(name) is None]
+    missing += [name for name in getattr(it, "needs_modules", ()) if importlib.util.find_spec(name) is None]
+    return next(iter(missing), None)
 
 
 def called(it, broker):

@@ -121,20 +121,30 @@ class Peer:
         assert len(body) == size
         return body
 
-    def open(self, frame_max=4096, channel_max=2047, heartbeat=0, mechanisms=b"AMQPLAIN PLAIN", pieces=0, user=b"guest", password=b"guest"):
-        """The opening, up to open-ok."""
+    def open(self, frame_max=4096, channel_max=2047, heartbeat=0, mechanisms=b"AMQPLAIN PLAIN", pieces=0, user=b"guest", password=b"guest", mechanism="PLAIN",
+             locales=b"en_US", locale="en_US", properties=short_text("product") + b"S" + long_text(b"scripted"), challenges=0):
+        """The opening, up to open-ok. The octets of what the client told of itself, without their length, are `told` then."""
+        response = {"PLAIN": b"\0" + user + b"\0" + password, "EXTERNAL": b"",
+                    "AMQPLAIN": short_text("LOGIN") + b"S" + long_text(user) + short_text("PASSWORD") + b"S" + long_text(password)}[mechanism]
         assert self._want(8) == b"AMQP\x00\x00\x09\x01"
-        self.send(method(0, 10, 10, b"\x00\x09" + long_text(short_text("product") + b"S" + long_text(b"scripted")) + long_text(mechanisms) + long_text(b"en_US")), pieces)
+        self.send(method(0, 10, 10, b"\x00\x09" + long_text(properties) + long_text(mechanisms) + long_text(locales)), pieces)
         fields = self.expect(0, 10, 11)
         table = struct.unpack(">I", fields[:4])[0]
-        rest = fields[4 + table:]
-        assert rest == short_text("PLAIN") + long_text(b"\0" + user + b"\0" + password) + short_text("en_US"), rest
-        assert b"\x12publisher_confirmst\x01" in fields[:4 + table]
+        self.told, rest = fields[4:4 + table], fields[4 + table:]
+        assert rest == short_text(mechanism) + long_text(response) + short_text(locale), rest
+        assert self.told.startswith(short_text("capabilities") + b"F") and b"\x12publisher_confirmst\x01" in self.told
+        for _ in range(challenges):
+            self.send(method(0, 10, 20, long_text(b"who?")), pieces)
+            assert self.expect(0, 10, 21) == long_text(response)
         self.send(method(0, 10, 30, struct.pack(">HIH", channel_max, frame_max, heartbeat)), pieces)
         tuned = struct.unpack(">HIH", self.expect(0, 10, 31))
         assert self.expect(0, 10, 40) == short_text("/") + b"\x00\x00"
         self.send(method(0, 10, 41, short_text("")), pieces)
         return tuned
+
+    def pairs(self):
+        """What the client told of itself behind its capabilities."""
+        return self.told[18 + struct.unpack(">I", self.told[14:18])[0]:]
 
     def channel(self, number, confirms=False):
         self.expect(number, 20, 10)

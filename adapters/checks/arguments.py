@@ -1,5 +1,7 @@
 """Arguments: what isn't of its type or range is refused by its name, before anything is done; no error shows a password."""
 import datetime
+import decimal
+import socket
 import ssl
 import uuid
 
@@ -10,6 +12,8 @@ from checks.common import confirms, fails, test
 from lapin._urls import target_of
 from scripted import Broker
 
+ENDLESS = []
+ENDLESS.append(ENDLESS)
 LIMITS = {"frame_max": 131072, "channel_max": 2047, "heartbeat": 60}
 
 
@@ -34,8 +38,16 @@ def limits_are_refused_where_they_would_wrap():
 
 @test
 def what_a_url_says_is_understood_or_refused():
-    for query in ("socket_timeout=1", "verify=verify_none", "cacertfile=x"):
-        assert query.split("=")[0] in str(fails(ValueError, lambda: target(f"amqp://h/?{query}")))
+    for query in ("blocked_connection_timeout=1", "verify=verify_none", "cacertfile=x", "socket_timeout=0", "stack_timeout=nan", "retry_delay=-1", "locale=de_DE",
+                  "connection_attempts=0", "connection_attempts=1.5", "client_properties=[1]", "client_properties=f(", "client_properties={'capabilities':{}}",
+                  "tcp_options={'TCP_KEEPIDLES':1}", "tcp_options={'TCP_KEEPIDLE':'1'}", "ssl_options={}", "connection_name=a&connection_name=b"):
+        assert query.split("=")[0].replace("tcp_options", "TCP_KEEPIDLE") in str(fails((ValueError, TypeError), lambda: target(f"amqp://h/?{query}")))
+    fails(ValueError, lambda: target("amqps://h/?ssl_options={'cafiles':'x'}"))
+    fails(ValueError, lambda: target("amqps://h/?ssl_options={}", tls=ssl.create_default_context()))
+    given = target("amqps://h/?ssl_options={'server_hostname':'b','cert_reqs':0}&tcp_options={'TCP_KEEPIDLE':60}&connection_attempts=3&retry_delay=0&stack_timeout=5"
+                   "&socket_timeout=1.5&client_properties={'product':'p'}&locale=en_US")
+    assert (given.server_name, given.tls.verify_mode, given.attempts, given.retry_delay) == ("b", ssl.CERT_NONE, 3, 0)
+    assert (given.stack_timeout, given.socket_timeout, given.tcp) == (5, 1.5, ((socket.TCP_KEEPIDLE, 60),)) and given.pairs == b"\x07productS\0\0\0\x01p"
     fails(ValueError, lambda: target("amqps://h/", tls=False))
     fails(TypeError, lambda: target("amqps://h/", tls="yes"))
     fails(TypeError, lambda: target(b"amqp://h/"))
@@ -68,19 +80,24 @@ def refused(channel):
         (TypeError, "message_id", 5), (TypeError, "correlation_id", uuid.uuid4()), (TypeError, "expiration", 5000), (TypeError, "delivery_mode", "2,priority=9"),
         (ValueError, "delivery_mode", 256), (ValueError, "priority", 300), (TypeError, "priority", True), (TypeError, "timestamp", 1.5),
         (TypeError, "timestamp", datetime.datetime(2026, 1, 1)), (ValueError, "timestamp", 1 << 64), (ValueError, "timestamp", -1),
-        (ValueError, "content_type", b"\xff"), (ValueError, "reply_to", "x" * 256), (ValueError, "app_id", "\ud800"), (TypeError, "colour", "red"),
-        (TypeError, "headers", [1]), (TypeError, "headers", {1: 1}), (TypeError, "headers", {"h": 1.5}), (ValueError, "headers", {"h": 1 << 63}),
-        (ValueError, "headers", {"h": [[[[[[[[1]]]]]]]]}), (ValueError, "headers", {"k" * 256: 1}), (ValueError, "headers", {"h": "\ud800"}))]
+        (TypeError, "content_type", ["x"]), (ValueError, "correlation_id", b"\xff" * 256), (ValueError, "reply_to", "x" * 256), (ValueError, "app_id", "\ud800"), (TypeError, "colour", "red"),
+        (TypeError, "headers", [1]), (TypeError, "headers", {1: 1}), (TypeError, "headers", {"h": 1j}), (TypeError, "headers", {"h": {1}}), (ValueError, "headers", {"h": 1 << 63}),
+        (ValueError, "headers", {"h": [ENDLESS]}), (ValueError, "headers", {"k" * 256: 1}), (ValueError, "headers", {"h": "\ud800"}),
+        (ValueError, "headers", {"h": float("nan")}), (ValueError, "headers", {"h": float("-inf")}), (ValueError, "headers", {"k": 1, b"k": 2}),
+        (ValueError, "headers", {"h": decimal.Decimal("0.12345678901")}), (ValueError, "headers", {"h": decimal.Decimal("NaN")}),
+        (ValueError, "headers", {"h": decimal.Decimal("1E+999999")}), (TypeError, "headers", {"h": datetime.datetime(2026, 1, 1)}),
+        (ValueError, "headers", {"h": datetime.datetime(1969, 12, 31, tzinfo=datetime.timezone.utc)}))]
     calls = [(kind, name, call) for kind, name, call in (
         (TypeError, "routing_key", lambda: publish("", 5, b"")), (TypeError, "exchange", lambda: publish(None, "q", b"")),
         (ValueError, "routing_key", lambda: publish("", "k" * 256, b"")), (ValueError, "routing_key", lambda: publish("", "\ud800", b"")),
         (TypeError, "mandatory", lambda: publish("", "q", b"", mandatory="no")), (TypeError, "kind", lambda: publish("", "q", b"", type="a", kind="b")),
         (TypeError, "queue", lambda: channel.queue_declare(5)), (TypeError, "queue", lambda: channel.queue_declare(None)),
         (ValueError, "queue", lambda: channel.get("ż" * 200)), (TypeError, "durable", lambda: channel.queue_declare("q", durable="no")),
-        (TypeError, "arguments", lambda: channel.queue_declare("q", arguments={"x-message-ttl": 5.0})),
+        (TypeError, "arguments", lambda: channel.queue_declare("q", arguments={"x-message-ttl": datetime.timedelta(seconds=5)})),
         (ValueError, "prefetch", lambda: channel.qos(70000)), (ValueError, "prefetch", lambda: channel.qos(-1)), (TypeError, "prefetch", lambda: channel.qos(1.5)),
         (ValueError, "prefetch", lambda: channel.connection.channel(prefetch=70000)), (ValueError, "limit", lambda: channel.connection.channel(limit=-1)),
-        (TypeError, "confirms", lambda: channel.connection.channel(confirms="yes")), (TypeError, "timeout", lambda: channel.connection.turn("5")),
+        (TypeError, "confirms", lambda: channel.connection.channel(confirms="yes")), (TypeError, "by_tag", lambda: channel.connection.channel(by_tag="yes")),
+         (TypeError, "timeout", lambda: channel.connection.turn("5")),
         (ValueError, "timeout", lambda: channel.connection.turn(float("nan"))), (TypeError, "no_ack", lambda: channel.consume("q", no_ack="no")))]
     return bodies + properties + calls
 

@@ -76,7 +76,7 @@ def fails(kind, call, **wanted):
         for name, value in wanted.items():
             assert getattr(error, name) == value, f"{name} is {getattr(error, name)!r}, not {value!r}"
         return error
-    raise AssertionError(f"no {kind.__name__}")
+    raise AssertionError(f"no {getattr(kind, '__name__', kind)}")
 
 
 def confirms(peer, **limits):

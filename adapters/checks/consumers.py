@@ -1,4 +1,5 @@
 """Consumers: deliveries in pieces, fates that are told once, gets, and a consumer's end."""
+import decimal
 import gc
 import os
 import random
@@ -32,7 +33,7 @@ def deliveries_in_pieces_are_acknowledged_once():
 
         def take(message):
             got.append(message.body)
-            assert message.properties["headers"]["n"] == -3 and message.properties["headers"]["f"] == b"d" + struct.pack(">d", 1.5)
+            assert message.properties["headers"]["n"] == -3 and message.properties["headers"]["f"] == 1.5
             assert (message.reject(requeue=False) if len(got) == 4 else message.ack()) is True
             assert message.ack() is False and message.nack() is False
         channel.consume("q", take)
@@ -46,9 +47,10 @@ def what_is_no_text_comes_as_bytes():
     key, no_text = scripted.short_text(b"\xff"), b"\xff\xfe"
     table = scripted.long_text(scripted.short_text("s") + b"S" + scripted.long_text(no_text) + scripted.short_text("D") + b"D\x02\x00\x00\x01\x3a")
     given = (
-        (struct.pack(">H", 0x2000) + table, {"s": no_text, "D": b"D\x02\x00\x00\x01\x3a"}),
-        (struct.pack(">H", 0x9000) + scripted.short_text(no_text) + b"\x02", {"": struct.pack(">H", 0x9000) + scripted.short_text(no_text) + b"\x02"}),
-        (struct.pack(">H", 0x2000) + scripted.long_text(key + b"t\x01"), {"": struct.pack(">H", 0x2000) + scripted.long_text(key + b"t\x01")}),
+        (struct.pack(">H", 0x2000) + table, {"headers": {"s": no_text, "D": decimal.Decimal("3.14")}}),
+        (struct.pack(">H", 0x9000) + scripted.short_text(no_text) + b"\x02", {"content_type": no_text, "delivery_mode": 2}),
+        (struct.pack(">H", 0x2000) + scripted.long_text(key + b"t\x01"), {"headers": {b"\xff": True}}),
+        (struct.pack(">H", 0x0400) + scripted.short_text("é".encode("latin-1")), {"correlation_id": b"\xe9"}),
     )
 
     def script(peer):
@@ -61,9 +63,10 @@ def what_is_no_text_comes_as_bytes():
         peer.close()
     with Broker(script) as url, lapin.connect(url) as connection:
         consumer = connection.channel().consume("q")
-        for _, headers in given:
+        for octets, properties in given:
             message = consumer.next(30)
-            assert message.properties["headers"] == headers and message.body == b"body" and message.ack(), message.properties
+            assert message.properties == properties and message.properties_octets == octets and message.body == b"body", message.properties
+            assert message.ack()
 
 
 @test
@@ -167,6 +170,36 @@ def multiple_settles_nothing_that_nobody_has_seen():
         b.cancel()
         assert second.ack(multiple=True)
         fails(lapin.Refused, lambda: channel.get("q").ack(multiple=True), cause="MultipleRefused")
+
+
+@test
+def a_channel_that_settles_by_tags_holds_no_settled_message():
+    def script(peer):
+        peer.open()
+        peer.channel(1)
+        peer.consume(1, "t")
+        peer.send(b"".join(scripted.deliver(1, "t", tag, b"%d" % tag) for tag in range(1, 8)))
+        assert peer.expect(1, 60, 80) == struct.pack(">QB", 2, 1)
+        assert peer.expect(1, 60, 90) == struct.pack(">QB", 3, 0)
+        assert peer.expect(1, 60, 120) == struct.pack(">QB", 4, 2)
+        assert peer.expect(1, 60, 80) == struct.pack(">QB", 5, 0)
+        peer.expect(1, 60, 30)
+        peer.send(scripted.method(1, 60, 31, scripted.short_text("t")))
+        assert peer.expect(1, 60, 90) == struct.pack(">QB", 7, 1)
+        peer.get(1, 9, b"got")
+        assert peer.expect(1, 60, 80) == struct.pack(">QB", 9, 0)
+        peer.channel(2)
+        peer.close()
+    with within(30), Broker(script) as url, lapin.connect(url) as connection:
+        channel = connection.channel(by_tag=True)
+        consumer = channel.consume("q")
+        came = [consumer.next(5) for _ in range(6)]
+        assert channel.ack(2, multiple=True) and not channel.ack(1) and not channel.ack(2)
+        assert channel.reject(3, requeue=False) and channel.nack(4) and came[4].ack() and not channel.ack(5) and not channel.ack(7)
+        consumer.cancel()
+        assert channel.get("q").body == b"got" and channel.ack(9) and list(channel._given) == [6]
+        fails(TypeError, lambda: channel.ack("6"))
+        fails(ValueError, lambda: connection.channel().ack(6))
 
 
 @test

@@ -1,4 +1,5 @@
-"""What the documents say: each snippet of Python is run, the package and a program over it have their types, and a wheel says what it is of."""
+"""What the documents say: each snippet of Python is run, what the sources say is said of them, the package and a program over it have their
+types, and a wheel says what it is of."""
 import contextlib
 import io
 import os
@@ -60,13 +61,29 @@ def rabbitmq_and_the_snippets_of_the_documents(url):
     for snippet in snippets("docs/ADAPTERS.md"):
         calls, work_on = counted(2)
         ran(snippet, url, lapin=lapin, URL=url, work_on=work_on)
-    with lapin.connect(url) as connection:
-        channel = connection.channel()
-        for queue in ("tasks", "hello"):
-            channel.queue_delete(queue)
+    publisher, consumer, waits = (ran(snippet, url) for snippet in snippets("docs/FROM_PIKA.md"))
+    assert publisher == ["100 are stored", "ack, returned: NO_ROUTE 312"] and consumer == ["100 seen"] and waits == ["True"], (publisher, consumer, waits)
     for module in (lapin, aio):
         snippet = re.search(r"\n\n((?: {4}.*\n|\n)+)", module.__doc__)[1]
         assert ran(textwrap.dedent(snippet), url)[-1:] == ["ack"], module.__name__
+    with lapin.connect(url) as connection:
+        channel = connection.channel()
+        for queue in ("tasks", "hello", "from.pika"):
+            channel.queue_delete(queue)
+
+
+PAGES = ("crates.py --check", "promises.py --check", "signatures.py --check", "method_tables.py --check", "state_tables.py", "doc_names.py")
+
+
+@test
+def the_pages_say_what_the_sources_do():
+    running = {}
+    for words in PAGES:
+        script, *rest = words.split(" ")
+        running[words] = subprocess.Popen([sys.executable, f"{TOP}/bench/{script}", *rest], stdout=subprocess.PIPE, stderr=subprocess.STDOUT, text=True)
+    told = {words: one.communicate()[0] for words, one in running.items()}
+    wrong = {words: told[words] for words, one in running.items() if one.returncode != 0}
+    assert not wrong, wrong
 
 
 @test
@@ -89,6 +106,7 @@ def wheel_of(folder, library, *words):
 def a_wheel_is_of_a_proved_library_unless_asked():
     folder = f"{BIN}/wheel"
     shutil.copytree(f"{ADAPTERS}/python", folder, ignore=shutil.ignore_patterns("*.so", "__pycache__"))
+    shutil.copy(f"{TOP}/LICENSE", folder)
     source, made = f"{BIN}/said.c", f"{BIN}/said.so"
     for proof, words, is_well in (("unproved", [], False), ("unproved", ["--unproved"], True), ("proved", [], True)):
         with open(source, "w", encoding="utf-8") as file:

@@ -271,6 +271,7 @@ def outcomes_are_told_after_a_close():
     with Broker(script) as url, lapin.connect(url) as connection:
         channel = connection.channel(confirms=True)
         given = [channel.publish("", "q", b"%d" % at) for at in range(2)]
+        assert connection.turn(5), "the ack has come before the close is called"
         connection.close()
         assert given[0].poll() and given[0].wait(1)
         for call in (given[1].poll, given[1].wait, connection.channel, lambda: channel.publish("", "q", b"x"), lambda: connection.turn(1), connection.flush):

@@ -98,7 +98,7 @@ def want_of_memory_is_told():
             peer.frame()
         except (HungUp, ConnectionError):
             pass
-    for answers in ({"lapin_receive": _library.NO_MEMORY}, {"lapin_receive": _library.KEPT}, {"lapin_receive": _library.NO_MEMORY, "lapin_line": _library.ENDED}):
+    for answers in ({"lapin_receive": _library.NO_MEMORY}, {"lapin_receive": _library.KEPT}, {"lapin_receive": _library.NO_MEMORY, "lapin_lost": _library.ENDED}):
         with within(20), Broker(script) as url, lapin.connect(url) as connection:
             given = [connection.channel(confirms=True).publish("", "q", b"x")]
             connection.flush()
@@ -110,9 +110,9 @@ def want_of_memory_is_told():
 
 def opened():
     session = _library.Session(131072)
-    for line, answer in (("call 1 channel.open", scripted.method(1, 20, 11, scripted.long_text(b""))),
-                         ("call 1 basic.consume x71 x74 0 1 0 0 {}", scripted.method(1, 60, 21, scripted.short_text("t")))):
-        session.line(line)
+    for call, answer in ((b"\x00\x14\x00\x0a\x00", scripted.method(1, 20, 11, scripted.long_text(b""))),
+                         (b"\x00\x3c\x00\x14\x00\x00\x01q\x01t\x02\x00\x00\x00\x00", scripted.method(1, 60, 21, scripted.short_text("t")))):
+        session.call(1, call)
         session.send()
         session.receive(answer)
     return session

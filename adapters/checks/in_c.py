@@ -8,7 +8,7 @@ import time
 import scripted
 from checks import in_c_library  # noqa: F401  (its tests count here)
 from checks.common import ADAPTERS, address, confirms, rabbit, said, test
-from checks.in_c_library import by, c_answers_nothing_and_extremes, program
+from checks.in_c_library import by, c_answers_nothing_and_extremes, c_reads_and_writes_values, program
 from scripted import Broker, HungUp
 
 
@@ -66,6 +66,36 @@ def c_tells_a_cut_connection_and_garbage():
         with Broker(script) as url:
             told = fails_by([tutorial("send"), *address(url)])
             assert ("ProtocolError 404" if last[:1] == b"\x01" else "ConnectionLost") in told, told
+
+
+@test
+def c_makes_each_call_as_the_standard_has_it():
+    q, e, k, none = (scripted.short_text(it) for it in ("q", "e", "k", ""))
+    table, empty, ticket = scripted.long_text(b"\x01nI\x00\x00\x00\x05" + b"\x01fd" + struct.pack(">d", 1.5)), bytes(4), bytes(2)
+    message = struct.pack(">QB", 7, 0) + none + scripted.short_text("key") + struct.pack(">I", 4)
+    found = scripted.method(1, 60, 71, message) + scripted.content(1, b"body", b"\x04\x00" + scripted.short_text(b"\xe9"))
+    calls = [(50, 10, ticket + q + b"\x0a" + table, q + struct.pack(">II", 3, 2)), (50, 10, ticket + none + b"\x05" + empty, q + bytes(8)),
+             (40, 10, ticket + e + scripted.short_text("topic") + b"\x0a" + table, b""), (40, 10, ticket + e + scripted.short_text("topic") + b"\x05" + empty, b""),
+             (40, 30, ticket + scripted.short_text("d") + scripted.short_text("s") + k + b"\x00" + table, b""), (50, 20, ticket + q + e + k + b"\x00" + table, b""),
+             (50, 50, ticket + q + e + k + empty, b""), (50, 30, ticket + q + b"\x00", struct.pack(">I", 11)), (50, 40, ticket + q + b"\x03", struct.pack(">I", 12)),
+             (40, 20, ticket + e + b"\x01", b""), (60, 10, bytes(4) + b"\x01\x2c\x01", b""), (60, 110, b"\x01", b""), (60, 70, ticket + q + b"\x00", None),
+             (60, 70, ticket + q + b"\x01", found), (60, 20, ticket + q + scripted.short_text("t") + b"\x05" + table, scripted.short_text("t")),
+             (60, 30, scripted.short_text("t") + b"\x00", scripted.short_text("t")), (90, 10, b"", b""), (90, 20, b"", b""), (90, 30, b"", b"")]
+
+    def script(peer):
+        peer.open(frame_max=8192)
+        peer.channel(1)
+        for klass, number, fields, answer in calls:
+            given = peer.expect(1, klass, number)
+            assert given == fields, f"{klass}.{number}: {given} where {fields} is right"
+            peer.send(found if answer is found else scripted.method(1, klass, number + (2 if answer is None else 1), none if answer is None else answer))
+        assert peer.expect(1, 20, 40) == b"\x00\xc8" + scripted.short_text("bye") + bytes(4)
+        peer.send(scripted.method(1, 20, 41))
+        peer.close()
+    with Broker(script) as url:
+        told = said(program("calls"), *address(url)).splitlines()
+    assert told == ["queue q, 3 messages, 2 consumers", "purged 11", "deleted 12", "got body of key, 4 left", "consumer t",
+                    "refused: yes; InvalidChannelState closed"], told
 
 
 def no_route(key, body, properties=b"\x00\x80\x011"):
@@ -132,13 +162,31 @@ def c_hears_while_it_sends():
 
 
 @test
+def c_tells_whose_the_next_message_is():
+    many, rounds = 400, 3
+
+    def script(peer):
+        peer.open()
+        peer.channel(1)
+        for number in range(many):
+            peer.consume(1, f"t{number}")
+        numbers = [number for _ in range(rounds) for number in range(many)]
+        for tag, number in enumerate(numbers, 1):
+            peer.send(scripted.deliver(1, f"t{number}", tag, b"%d %d" % (number, (tag - 1) // many)))
+        peer.send(scripted.method(1, 60, 30, scripted.short_text("t1") + b"\1"))
+        peer.close()
+    with Broker(script) as url:
+        assert f"{many * rounds} messages of {many} consumers, 0 wrong" in said(program("next_of"), *address(url), many, rounds)
+
+
+@test
 def c_keeps_its_times_where_the_broker_does_not_read():
     count = []
 
     def script(peer):
         peer.open(frame_max=131072, heartbeat=2)
         peer.channel(1, confirms=True)
-        for _ in range(10):
+        for _ in range(20):
             time.sleep(0.4)
             peer.send(scripted.frame(8, 0, b""))
         while True:
@@ -244,9 +292,43 @@ def c_ends_an_opening_in_its_time():
             assert said(program("opening"), *address(url)).startswith("not open")
 
 
+@test
+def c_names_a_connection_and_says_the_mechanism_that_is_wanted():
+    name = scripted.short_text("connection_name") + b"S" + scripted.long_text("w\u00f6rker".encode())
+    for number, mechanism, offered in ((0, "PLAIN", b"PLAIN EXTERNAL"), (0, "AMQPLAIN", b"AMQPLAIN"), (1, "AMQPLAIN", b"PLAIN AMQPLAIN"), (2, "EXTERNAL", b"PLAIN EXTERNAL")):
+        def script(peer, mechanism=mechanism, offered=offered):
+            peer.open(mechanisms=offered, mechanism=mechanism, user=b"bob", password=b"secret-password", challenges=1)
+            assert peer.pairs().endswith(b"lapin channels" + name), peer.pairs()
+            peer.close()
+        with Broker(script) as url:
+            told = said(program("named"), *address(url), number, "w\u00f6rker")
+            assert told == f"open by {('PLAIN', 'AMQPLAIN', 'EXTERNAL').index(mechanism)} with frames of 4096, told 21 octets, of which the first is 7\n", told
+
+    def offers_plain(peer):
+        peer._want(8)
+        peer.send(scripted.method(0, 10, 10, b"\x00\x09" + scripted.long_text(b"") + scripted.long_text(b"PLAIN AMQPLAIN") + scripted.long_text(b"en_US")))
+        try:
+            peer.frame()
+        except HungUp:
+            return
+        raise AssertionError("the client went on")
+    with Broker(offers_plain) as url:
+        assert "not open: the connection was not opened: code 403" in said(program("named"), *address(url), 2, "x")
+
+    def hears_nothing(peer):
+        try:
+            peer._want(1)
+        except HungUp:
+            return
+        raise AssertionError("something was written")
+    with Broker(hears_nothing) as url:
+        assert "properties can't be told" in said(program("named"), *address(url), 0, "x", "no table")
+
+
 # What the instruments look at: all but those that measure time. (A jump leaves what it was about, and is no fault of theirs.)
-WATCHED = [c_publishes_with_a_confirm, c_consumes_in_pieces, c_tells_a_cut_connection_and_garbage, c_gives_what_came_back_to_its_own_publish,
-           c_is_used_by_one_thread_of_one_process, c_shows_the_brokers_last_words, c_answers_nothing_and_extremes]
+WATCHED = [c_makes_each_call_as_the_standard_has_it, c_reads_and_writes_values, c_publishes_with_a_confirm, c_consumes_in_pieces,
+           c_tells_a_cut_connection_and_garbage, c_gives_what_came_back_to_its_own_publish, c_is_used_by_one_thread_of_one_process,
+           c_shows_the_brokers_last_words, c_names_a_connection_and_says_the_mechanism_that_is_wanted, c_answers_nothing_and_extremes]
 
 
 @test

@@ -67,6 +67,11 @@ def c_answers_nothing_and_extremes():
 
 
 @test
+def c_reads_and_writes_values():
+    said(program("values"))
+
+
+@test
 def c_holds_no_more_with_each_turn():
     said(sys.executable, f"{os.path.dirname(ADAPTERS)}/bench/held.py", f"{BIN}/liblapin.so")
 

@@ -150,7 +150,7 @@ def a_second_thread_is_refused():
 @test
 def two_threads_over_a_session_give_no_number_twice():
     session, numbers, refused = _library.Session(131072), [[], []], []
-    session.line("call 1 channel.open")
+    session.call(1, b"\x00\x14\x00\x0a\x00")
     session.send()
     session.receive(scripted.method(1, 20, 11, scripted.long_text(b"")))
 
