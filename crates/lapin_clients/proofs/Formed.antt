@@ -35,19 +35,19 @@ use Rattle.lapin_clients.proofs.Published.{run_is}
 use Rattle.lapin_clients.proofs.Runs.{longer_joined, turns_go, with_client}
 use Rattle.lapin_clients.proofs.Wires.{long_more, none_came}
 
-abbrev Around : Type 0
+abbrev pub Around : Type 0
 Around = ℕ × ℕ × List ℕ
 
 -- ---- what stands whole at the head is read
 
-abbrev said_of : Around × List ℕ → Option Said
+abbrev pub said_of : Around × List ℕ → Option Said
 said_of a = cond (a.0.1 == 0) (payload_said a.0.0 a.0.2) None
 
 same_said : (more : List ℕ) (o : Option (Around × List ℕ)) → (and_more more o >>= said_of) ≡ (o >>= said_of)
 same_said more None = refl
 same_said more (Some a) = refl
 
-said_more : (bytes more : List ℕ) → wanted_behind bytes ≡ 0 → frame_said_at (bytes ++ more) ≡ frame_said_at bytes
+pub said_more : (bytes more : List ℕ) → wanted_behind bytes ≡ 0 → frame_said_at (bytes ++ more) ≡ frame_said_at bytes
 said_more bytes more e = ap (λ (o : Option (Around × List ℕ)). o >>= said_of) (around_more bytes more e) ∙ same_said more (around_at bytes)
 
 none_malformed : (most : ℕ) (came behind : List ℕ) (pieces : List Piece) → AllFit most pieces → came ++ behind ≡ octets_of pieces → wanted_behind came ≡ 0 → read_at came ≡ None → SaysNoNotice came → ⊥

@@ -20,7 +20,7 @@ pub bind_some : {A B : Type 0} (m : Option A) (k : A → Option B) (y : B) → (
 bind_some None k y e = absurd cc
 bind_some (Some x) k y e = (x, refl, e)
 
-abbrev Around : Type 0
+abbrev pub Around : Type 0
 Around = ℕ × ℕ × List ℕ
 
 -- ---- what is read stands there whole, and takes no more octets than there are
@@ -52,11 +52,11 @@ piece_there kind channel n rest x e =
           record { room = omega (arith, t, length-drop n rest); size = omega (arith, s, t, length-drop n rest, length-take n rest) }
     ] e
 
-record IsWhole (bytes payload : List ℕ) : Type 0 where
-  wanted : wanted_behind bytes ≡ 0
-  size : length payload + 8 ≤ length bytes
+pub record IsWhole (bytes payload : List ℕ) : Type 0 where
+  pub wanted : wanted_behind bytes ≡ 0
+  pub size : length payload + 8 ≤ length bytes
 
-around_whole : (bytes : List ℕ) (x : Around × List ℕ) → around_at bytes ≡ Some x → IsWhole bytes x.0.2
+pub around_whole : (bytes : List ℕ) (x : Around × List ℕ) → around_at bytes ≡ Some x → IsWhole bytes x.0.2
 around_whole [] x e = absurd cc
 around_whole (_ ∷ []) x e = absurd cc
 around_whole (_ ∷ _ ∷ []) x e = absurd cc

@@ -18,3 +18,4 @@ pub mod Messages
 pub mod Replies
 pub mod Honest
 pub mod Formed
+pub mod Openings

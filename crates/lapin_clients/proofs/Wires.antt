@@ -35,7 +35,7 @@ use Rattle.lapin_clients.proofs.Acting.{with_piece}
 
 -- ---- a notice at the head
 
-whole_long : (bytes : List ℕ) → wanted_behind bytes ≡ 0 → length_at bytes ≤ length bytes
+pub whole_long : (bytes : List ℕ) → wanted_behind bytes ≡ 0 → length_at bytes ≤ length bytes
 whole_long (_ ∷ _ ∷ _ ∷ a ∷ b ∷ c ∷ d ∷ rest) h = omega (arith, h)
 whole_long (_ ∷ _ ∷ _ ∷ _ ∷ _ ∷ _ ∷ []) h = omega arith
 whole_long (_ ∷ _ ∷ _ ∷ _ ∷ _ ∷ []) h = omega arith

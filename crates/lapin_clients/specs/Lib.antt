@@ -4,3 +4,4 @@ pub mod Calls
 pub mod Nets
 pub mod Joined
 pub mod Truth
+pub mod Openings

@@ -3,12 +3,14 @@
 
 ghost use Rattle.std.specs.Prelude.{◌≡◌, ◌≤◌, ◌<◌, ◌++◌, ℕ, List, None};
 ghost use Rattle.lapin_types.specs.Types.{Frame};
+ghost use Rattle.lapin_handshake.specs.Callers.{Who};
 ghost use Rattle.lapin_joint.specs.declared.step.Step.{Step as AStep};
 ghost use Rattle.lapin_joint.specs.Joint.{Joint};
 ghost use Rattle.lapin_machine.specs.World.{World};
 ghost use Rattle.lapin_clients.specs.Calls.{Call as ACall};
 ghost use Rattle.lapin_clients.specs.Joined.{IsJoined, IsRun, LeadsOn, machine_to};
 ghost use Rattle.lapin_clients.specs.Nets.{Act, Net, IsNewNet, Leads, Does, Calls, Reads, Sends, Strays};
+ghost use Rattle.lapin_clients.specs.Openings.{Act as OpeningAct, OpeningsAreRead, RunsFollow};
 ghost use Rattle.lapin_clients.specs.Pieces.{Piece, ArePieces, AreReadAsWritten, IsReadAgain};
 ghost use Rattle.lapin_clients.specs.Truth.{IsTold, OutcomesAreVerdicts, MessagesAreSent, AnswersAreReplies, FramesAreHeard, OctetsAreRead};
 
@@ -94,4 +96,19 @@ pub fn no_frame_of_an_honest_broker_is_refused()
 /// `Malformed`, and `TooLong` only of a frame of this side that was to leave before. So nothing that it sent ends the client.
 pub fn octets_of_an_honest_broker_are_read()
     ensures { (frame_max : ℕ) (acts : List Act) → OctetsAreRead frame_max acts }
+{}
+
+/// What came before a connection was open is an opening by the standard's grammar, whatever the broker is and wherever its octets are cut: a start of
+/// version 0-9, challenges, its limits and its open-ok, heartbeats between them, each read whole and answered by the machine of `lapin_handshake`.
+/// What this side said is the protocol header and these replies. The limits are those on which both sides agreed.
+#[tactic(auto, using(crate::proofs::Openings::opening_read))]
+pub fn an_opening_is_read_whole()
+    ensures { (who : Who) (acts : List OpeningAct) → OpeningsAreRead who acts }
+{}
+
+/// A run begins where its opening ended, if the broker says an opening and behind it what it sends in the run: what was left of the opening, with what
+/// comes behind it, is octet for octet what the client takes in the run, and what is on its way still. So the laws of runs hold from a connection's
+/// first octet on.
+pub fn a_run_follows_its_opening()
+    ensures { (who : Who) (acts : List OpeningAct) (run : List Act) → RunsFollow who acts run }
 {}
