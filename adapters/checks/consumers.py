@@ -9,7 +9,7 @@ import time
 
 import lapin
 import scripted
-from checks.common import fails, rabbit, test, waiting, within
+from checks.common import fails, rabbit, test, within
 from scripted import Broker, HungUp
 
 
@@ -226,7 +226,7 @@ def a_run_ends_as_its_callbacks_say():
         assert "NOT_FOUND - gone" in str(fails(lapin.CallFailed, lambda: connection.run(5), code=404))
 
 
-@waiting("the border, which has the octets of names")
+@test
 def a_message_whose_key_is_no_text_reaches_its_user():
     def script(peer):
         peer.open()
@@ -237,7 +237,7 @@ def a_message_whose_key_is_no_text_reaches_its_user():
         peer.close()
     with Broker(script) as url, lapin.connect(url) as connection:
         message = connection.channel().consume("q").next(5)
-        assert message.body == b"body" and message.ack()
+        assert message.body == b"body" and message.routing_key == "caf?" and message.ack()
 
 
 @rabbit

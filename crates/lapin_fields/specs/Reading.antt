@@ -72,7 +72,8 @@ as_letter b = if nat_lt b 128 then b else 63
 abbrev pub readable : List ℕ → List ℕ
 readable s = take (utf8_valid_len s) s ++ map as_letter (drop (utf8_valid_len s) s)
 
--- a reply text behind its length. What it says is for people, and no octets of it are refused
+-- a text of the broker's behind its length, of which no octets are refused: a reply text, which is for people; and where a message is told the names
+-- that a stranger gave it, its exchange and its routing key
 abbrev pub reply_at : List ℕ → Option (List ℕ × List ℕ)
 reply_at bytes = string_at bytes >>= λ s. Some (readable s.0, s.1)
 

@@ -83,7 +83,8 @@ pub fn readable_text(alloc: Global, bytes: &[u8]) -> Result<ShortString, ReadFau
     }
 }
 
-/// The reply text that stands next. A broker cuts one at 255 octets, within a letter too, so its octets are taken whatever they are.
+/// The text of the broker's that stands next, whatever its octets are: a reply text, which a broker cuts at 255 octets, within a letter too, or a
+/// name that a stranger gave a message.
 pub fn take_reply(alloc: Global, octets: &mut Octets) -> Result<ShortString, ReadFault>
     ensures { Gives result octets.new (reply_at octets.old) }
 {

@@ -169,10 +169,10 @@ basic_tabled n bytes =
     when n == 30 have (none_in (past (text_at bytes) (λ consumer_tag. past (octet_at consumer_tag.1) (λ marks. made refl)))) else  -- basic.Cancel
     when n == 31 have (none_in (past (text_at bytes) (λ consumer_tag. made refl))) else  -- basic.CancelOk
     when n == 40 have (none_in (past (short_at bytes) (λ r1. past (text_at r1.1) (λ exchange. past (text_at exchange.1) (λ routing_key. past (octet_at routing_key.1) (λ marks. made refl)))))) else  -- basic.Publish
-    when n == 50 have (none_in (past (short_at bytes) (λ reply_code. past (reply_at reply_code.1) (λ reply_text. past (text_at reply_text.1) (λ exchange. past (text_at exchange.1) (λ routing_key. made refl)))))) else  -- basic.Return
-    when n == 60 have (none_in (past (text_at bytes) (λ consumer_tag. past (wide_at consumer_tag.1) (λ delivery_tag. past (octet_at delivery_tag.1) (λ marks. past (text_at marks.1) (λ exchange. past (text_at exchange.1) (λ routing_key. made refl))))))) else  -- basic.Deliver
+    when n == 50 have (none_in (past (short_at bytes) (λ reply_code. past (reply_at reply_code.1) (λ reply_text. past (reply_at reply_text.1) (λ exchange. past (reply_at exchange.1) (λ routing_key. made refl)))))) else  -- basic.Return
+    when n == 60 have (none_in (past (text_at bytes) (λ consumer_tag. past (wide_at consumer_tag.1) (λ delivery_tag. past (octet_at delivery_tag.1) (λ marks. past (reply_at marks.1) (λ exchange. past (reply_at exchange.1) (λ routing_key. made refl))))))) else  -- basic.Deliver
     when n == 70 have (none_in (past (short_at bytes) (λ r1. past (text_at r1.1) (λ queue. past (octet_at queue.1) (λ marks. made refl))))) else  -- basic.Get
-    when n == 71 have (none_in (past (wide_at bytes) (λ delivery_tag. past (octet_at delivery_tag.1) (λ marks. past (text_at marks.1) (λ exchange. past (text_at exchange.1) (λ routing_key. past (long_at routing_key.1) (λ message_count. made refl))))))) else  -- basic.GetOk
+    when n == 71 have (none_in (past (wide_at bytes) (λ delivery_tag. past (octet_at delivery_tag.1) (λ marks. past (reply_at marks.1) (λ exchange. past (reply_at exchange.1) (λ routing_key. past (long_at routing_key.1) (λ message_count. made refl))))))) else  -- basic.GetOk
     when n == 72 have (none_in (past (string_at bytes) (λ r1. made refl))) else  -- basic.GetEmpty
     when n == 80 have (none_in (past (wide_at bytes) (λ delivery_tag. past (octet_at delivery_tag.1) (λ marks. made refl)))) else  -- basic.Ack
     when n == 90 have (none_in (past (wide_at bytes) (λ delivery_tag. past (octet_at delivery_tag.1) (λ marks. made refl)))) else  -- basic.Reject

@@ -1,5 +1,6 @@
 -- Reading the fields of a method of a number, in the order that they are written in. What the standard reserves is passed over whatever
--- it is, and so are the bits of an octet of flags that no flag has. A table of arguments is carried as the octets that it is.
+-- it is, and so are the bits of an octet of flags that no flag has. A table of arguments is carried as the octets that it is. A reply text, and the
+-- exchange and the routing key of a message that the broker tells, are read whatever their octets are: a stranger gave them.
 use Rattle.std.specs.Prelude.{ℕ, ◌==◌, List, Option, Some, None, if◌then◌else◌}
 use Rattle.lapin_methods.specs.declared.method.Method.{Method}
 use Rattle.lapin_methods.specs.declared.method.Method.TheVariants as method
@@ -103,10 +104,10 @@ basic_at n bytes =
     if n == 30 then (text_at bytes >>= λ consumer_tag. octet_at consumer_tag.1 >>= λ flags. Some ((basic_method.Cancel consumer_tag.0 (bit_at 1 flags.0)), flags.1)) else
     if n == 31 then (text_at bytes >>= λ consumer_tag. Some ((basic_method.CancelOk consumer_tag.0), consumer_tag.1)) else
     if n == 40 then (short_at bytes >>= λ r1. text_at r1.1 >>= λ exchange. text_at exchange.1 >>= λ routing_key. octet_at routing_key.1 >>= λ flags. Some ((basic_method.Publish exchange.0 routing_key.0 (bit_at 1 flags.0) (bit_at 2 flags.0)), flags.1)) else
-    if n == 50 then (short_at bytes >>= λ reply_code. reply_at reply_code.1 >>= λ reply_text. text_at reply_text.1 >>= λ exchange. text_at exchange.1 >>= λ routing_key. Some ((basic_method.Return reply_code.0 reply_text.0 exchange.0 routing_key.0), routing_key.1)) else
-    if n == 60 then (text_at bytes >>= λ consumer_tag. wide_at consumer_tag.1 >>= λ delivery_tag. octet_at delivery_tag.1 >>= λ flags. text_at flags.1 >>= λ exchange. text_at exchange.1 >>= λ routing_key. Some ((basic_method.Deliver consumer_tag.0 delivery_tag.0 (bit_at 1 flags.0) exchange.0 routing_key.0), routing_key.1)) else
+    if n == 50 then (short_at bytes >>= λ reply_code. reply_at reply_code.1 >>= λ reply_text. reply_at reply_text.1 >>= λ exchange. reply_at exchange.1 >>= λ routing_key. Some ((basic_method.Return reply_code.0 reply_text.0 exchange.0 routing_key.0), routing_key.1)) else
+    if n == 60 then (text_at bytes >>= λ consumer_tag. wide_at consumer_tag.1 >>= λ delivery_tag. octet_at delivery_tag.1 >>= λ flags. reply_at flags.1 >>= λ exchange. reply_at exchange.1 >>= λ routing_key. Some ((basic_method.Deliver consumer_tag.0 delivery_tag.0 (bit_at 1 flags.0) exchange.0 routing_key.0), routing_key.1)) else
     if n == 70 then (short_at bytes >>= λ r1. text_at r1.1 >>= λ queue. octet_at queue.1 >>= λ flags. Some ((basic_method.Get queue.0 (bit_at 1 flags.0)), flags.1)) else
-    if n == 71 then (wide_at bytes >>= λ delivery_tag. octet_at delivery_tag.1 >>= λ flags. text_at flags.1 >>= λ exchange. text_at exchange.1 >>= λ routing_key. long_at routing_key.1 >>= λ message_count. Some ((basic_method.GetOk delivery_tag.0 (bit_at 1 flags.0) exchange.0 routing_key.0 message_count.0), message_count.1)) else
+    if n == 71 then (wide_at bytes >>= λ delivery_tag. octet_at delivery_tag.1 >>= λ flags. reply_at flags.1 >>= λ exchange. reply_at exchange.1 >>= λ routing_key. long_at routing_key.1 >>= λ message_count. Some ((basic_method.GetOk delivery_tag.0 (bit_at 1 flags.0) exchange.0 routing_key.0 message_count.0), message_count.1)) else
     if n == 72 then (string_at bytes >>= λ r1. Some (basic_method.GetEmpty, r1.1)) else
     if n == 80 then (wide_at bytes >>= λ delivery_tag. octet_at delivery_tag.1 >>= λ flags. Some ((basic_method.Ack delivery_tag.0 (bit_at 1 flags.0)), flags.1)) else
     if n == 90 then (wide_at bytes >>= λ delivery_tag. octet_at delivery_tag.1 >>= λ flags. Some ((basic_method.Reject delivery_tag.0 (bit_at 1 flags.0)), flags.1)) else

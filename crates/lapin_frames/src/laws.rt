@@ -36,7 +36,8 @@ pub fn what_is_read_is_carried()
 
 /// Octets go through untouched. What is written of a content header that was read are the octets that came, but that the two that the standard
 /// reserves, its weight, are 0; of a body they are exactly these. Of a method that has a table the octets of the table are, at the end of its
-/// frame; beside them a field that the standard reserves is written as 0 or empty, a bit that no flag has as 0, and a reply text as it was read.
+/// frame; beside them a field that the standard reserves is written as 0 or empty, a bit that no flag has as 0, and a text that is read whatever its
+/// octets are as it was read.
 #[tactic(auto, using(crate::proofs::CarriedLaws::arguments_untouched, crate::proofs::CarriedLaws::header_untouched, crate::proofs::CarriedLaws::body_untouched))]
 pub fn octets_go_through_untouched()
     ensures arguments { (bytes : List ℕ) (c : ℕ) (m : AnyMethod) (n : ℕ) (t : List (List ℕ × Data)) → All (λ b. b < 256) bytes → read_at bytes ≡ Some (Read.Frame (frame.Method c m) n) → arguments_of m ≡ Some t

@@ -1,9 +1,9 @@
 //! The rows of a class's table, as code: adding the number and the fields of a method, and reading the fields.
 //!
 //! A row is a method's variant, its number in the class, the fields before its flags, the flags, and the fields behind them. A field is
-//! a `text`, a `table`, whose octets nobody reads, a number of 16 bits (`short`), 32 (`long`) or 64 (`wide`), or a `reply` text, which is
-//! read whatever its octets are; or it is one that the standard reserves and that no method here has: a number of 16 or 32 bits, a text or a long string that is
-//! empty.
+//! a `text`, a `table`, whose octets nobody reads, a number of 16 bits (`short`), 32 (`long`) or 64 (`wide`), or a `reply`, a text that the broker
+//! tells and that is read whatever its octets are: a reply text, and the exchange and the routing key of a message. Or it is one that the standard
+//! reserves and that no method here has: a number of 16 or 32 bits, a text or a long string that is empty.
 
 macro_rules! put_field {
     (text, $alloc:ident, $out:ident, $name:ident) => { put_text($out, $name)?; };

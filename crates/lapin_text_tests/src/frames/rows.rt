@@ -53,7 +53,12 @@ x01000100000010001400280196056162d09dd0003c0050ce -> method 1 channel.close 406 
 x0100000000000f000a0032014004fffe804100000000ce -> method 0 connection.close 320 x3f3f3f41 0 0
 x0100010000000e003c003201380341c3620165016bce -> method 1 basic.return 312 x413f62 x65 x6b
 x0100010000000f00140028019604c328c3a9003c0050ce -> method 1 channel.close 406 x3f283f3f 60 80
-x0100010000000c003c003201380002c328016bce -> malformed
+
+names that a stranger gave a message, no UTF-8: of one that came back, of a delivery, of a get; a queue's name that is none is no frame
+x0100010000000c003c003201380002c328016bce -> method 1 basic.return 312 x x3f28 x6b
+x01000100000015003c003c01740000000000000001000004636166e9ce -> method 1 basic.deliver x74 1 0 x x6361663f
+x01000100000015003c004700000000000000020001ff016b00000000ce -> method 1 basic.get-ok 2 0 x3f x6b 0
+x0100010000000e0032000b01ff0000000000000000ce -> malformed
 
 what is passed over: reserved fields, bits that no flag has, the order of keys and all but the last of two equal keys
 x01000100000007003c00480278f2ce -> method 1 basic.get-empty
