@@ -8,18 +8,7 @@
 
 #include "transport.h"
 
-/* What may be asked for beside; each call says which it knows. */
-enum {
-    LAPIN_PASSIVE = 1,
-    LAPIN_DURABLE = 2,
-    LAPIN_EXCLUSIVE = 4,
-    LAPIN_AUTO_DELETE = 8,
-    LAPIN_INTERNAL = 16,
-    LAPIN_NO_ACK = 32,
-    LAPIN_IF_UNUSED = 64,
-    LAPIN_IF_EMPTY = 128,
-    LAPIN_NO_LOCAL = 256
-};
+#include "methods.h"
 
 /* A declared queue. */
 typedef struct {
@@ -56,21 +45,21 @@ static inline bool lapin_in_order(lapin_connection *c, uint64_t until) {
     return c->leaving_to - c->leaving_from < LAPIN_ENOUGH || lapin_flush_until(c, until);
 }
 
-/* Makes the call of a method, and waits for its answer, which stands in c->fields and c->answer. */
-static inline bool lapin_answered(lapin_connection *c, uint16_t channel, lapin_octets method, uint64_t until) {
-    uint64_t ticket;
+/* The octets of a call, with the table behind them where there is one, in a room of the connection's. */
+static inline bool lapin_spell(lapin_connection *c, lapin_octets head, const lapin_octets *table, lapin_octets *method) {
+    size_t more = table ? table->length : 0;
+    if (!head.at || (table && !table->at)) return lapin_fails(c, "a name of more than 255 bytes, or a table that was not written whole");
+    if (more > SIZE_MAX / 4 || !lapin_fit(&c->method, &c->method_length, head.length + 4 + more)) return lapin_fails(c, "no memory");
+    lapin_writer w = lapin_into(c->method, c->method_length);
+    lapin_put(&w, head.at, head.length);
+    if (table) lapin_put_long(&w, *table);
+    *method = lapin_written(&w);
+    return true;
+}
+
+/* What an answer says that came, by the status of its reply: it stands in c->fields and c->answer. */
+static inline bool lapin_take_answer(lapin_connection *c, uint16_t channel, uint32_t status) {
     lapin_fields *found = &c->fields;
-    if (!lapin_in_order(c, until)) return lapin_fails(c, "%s; the call was not made", c->error);
-    uint32_t status = lapin_call(&c->session, channel, method.at, method.length, &ticket);
-    if (status) return lapin_refuses(c, channel, status);
-    bool is_late = !lapin_push(c) && !c->is_lost;
-    while (!is_late && (status = lapin_reply(&c->session, ticket, found)) == LAPIN_PENDING && !c->is_lost) {
-        is_late = lapin_now() >= until || (!lapin_turn_until(c, until) && !c->is_lost);
-        if (is_late && lapin_now() >= until)
-            lapin_fails(c, "TimedOut: no answer in time to class %u, method %u", (unsigned char)method.at[1], (unsigned char)method.at[3]);
-    }
-    if (is_late) return lapin_forget_call(&c->session, ticket), false;
-    if (status == LAPIN_PENDING) return lapin_lose(c, c->lost);
     if (status) return lapin_refuses(c, channel, status);
     bool has_answer = found->kind == LAPIN_REPLY_QUEUE || found->kind == LAPIN_REPLY_CONSUMER || found->kind == LAPIN_REPLY_MESSAGE;
     uint64_t consumer = found->kind == LAPIN_REPLY_CONSUMER ? found->number : 0;
@@ -78,20 +67,31 @@ static inline bool lapin_answered(lapin_connection *c, uint16_t channel, lapin_o
     return !has_answer || lapin_told(c) != NULL;
 }
 
+static inline bool lapin_is_unanswered(lapin_connection *c, unsigned klass, unsigned number) {
+    return lapin_fails(c, "TimedOut: no answer in time to class %u, method %u", klass, number);
+}
+
+/* Makes the call of a method, and waits for its answer, which stands in c->fields and c->answer. */
+static inline bool lapin_answered(lapin_connection *c, uint16_t channel, lapin_octets method, uint64_t until) {
+    uint64_t ticket;
+    if (!lapin_in_order(c, until)) return lapin_fails(c, "%s; the call was not made", c->error);
+    uint32_t status = lapin_call(&c->session, channel, method.at, method.length, &ticket);
+    if (status) return lapin_refuses(c, channel, status);
+    bool is_late = !lapin_push(c) && !c->is_lost;
+    while (!is_late && (status = lapin_reply(&c->session, ticket, &c->fields)) == LAPIN_PENDING && !c->is_lost) {
+        is_late = lapin_now() >= until || (!lapin_turn_until(c, until) && !c->is_lost);
+        if (is_late && lapin_now() >= until) lapin_is_unanswered(c, (unsigned char)method.at[1], (unsigned char)method.at[3]);
+    }
+    if (is_late) return lapin_forget_call(&c->session, ticket), false;
+    return status == LAPIN_PENDING ? lapin_lose(c, c->lost) : lapin_take_answer(c, channel, status);
+}
+
 /* Makes a call of these octets, and of a table behind them where there is one. */
 static inline const lapin_fields *lapin_asks(lapin_connection *c, uint16_t channel, lapin_octets head, const lapin_octets *table) {
     int before = errno;
-    bool is_done = false;
-    size_t more = table ? table->length : 0;
+    lapin_octets method;
     if (!lapin_enter(c)) return NULL;
-    if (!head.at || (table && !table->at)) lapin_fails(c, "a name of more than 255 bytes, or a table that was not written whole");
-    else if (more > SIZE_MAX / 4 || !lapin_fit(&c->method, &c->method_length, head.length + 4 + more)) lapin_fails(c, "no memory");
-    else if (lapin_is_alive(c)) {
-        lapin_writer w = lapin_into(c->method, c->method_length);
-        lapin_put(&w, head.at, head.length);
-        if (table) lapin_put_long(&w, *table);
-        is_done = lapin_answered(c, channel, lapin_written(&w), lapin_until(c->timeout));
-    }
+    bool is_done = lapin_spell(c, head, table, &method) && lapin_is_alive(c) && lapin_answered(c, channel, method, lapin_until(c->timeout));
     c->is_inside = false, errno = before;
     return is_done ? &c->fields : NULL;
 }
@@ -105,146 +105,21 @@ static inline const lapin_fields *lapin_ask(lapin_connection *c, uint16_t channe
     return lapin_asks(c, channel, octets, NULL);
 }
 
-/* ---- the methods. A room of so many octets has each of their heads */
-
-enum { LAPIN_HEAD = 1100 };
-
-static inline lapin_writer lapin_method(void *room, unsigned klass, unsigned number) {
-    lapin_writer w = lapin_into(room, LAPIN_HEAD);
-    lapin_put_number(&w, klass, 2), lapin_put_number(&w, number, 2);
-    return w;
-}
-
-/* Of most methods: a ticket, of which brokers know nothing, and names, up to three; NULL for none. */
-static inline lapin_writer lapin_of_names(void *room, unsigned klass, unsigned number, const char *first, const char *second, const char *third) {
-    lapin_writer w = lapin_method(room, klass, number);
-    lapin_put_number(&w, 0, 2), lapin_put_short(&w, lapin_text(first));
-    if (second) lapin_put_short(&w, lapin_text(second));
-    if (third) lapin_put_short(&w, lapin_text(third));
-    return w;
-}
+/* ---- what is made of an answer */
 
 static inline const lapin_octets *lapin_or_none(const lapin_octets *arguments) {
     static const lapin_octets NONE = {"", 0};
     return arguments ? arguments : &NONE;
 }
 
-static inline unsigned lapin_bit(unsigned asked, unsigned mark, unsigned place) { return asked & mark ? 1u << place : 0; }
-
-/* Has the method done that is its class and its number, and perhaps an octet. */
-static inline bool lapin_does(lapin_connection *c, uint16_t channel, unsigned klass, unsigned number, int octet) {
-    unsigned char room[LAPIN_HEAD];
-    lapin_writer w = lapin_method(room, klass, number);
-    if (octet >= 0) lapin_put_number(&w, (unsigned)octet, 1);
-    return lapin_asks(c, channel, lapin_written(&w), NULL) != NULL;
-}
-
-static inline bool lapin_channel_open(lapin_connection *c, uint16_t channel) { return lapin_does(c, channel, 20, 10, 0); }
-static inline bool lapin_confirm_select(lapin_connection *c, uint16_t channel) { return lapin_does(c, channel, 85, 10, 0); }
-static inline bool lapin_recover(lapin_connection *c, uint16_t channel) { return lapin_does(c, channel, 60, 110, 1); }
-static inline bool lapin_tx_select(lapin_connection *c, uint16_t channel) { return lapin_does(c, channel, 90, 10, -1); }
-static inline bool lapin_tx_commit(lapin_connection *c, uint16_t channel) { return lapin_does(c, channel, 90, 20, -1); }
-static inline bool lapin_tx_rollback(lapin_connection *c, uint16_t channel) { return lapin_does(c, channel, 90, 30, -1); }
-
-#define LAPIN_CHANNEL_CLOSE "\0\x14\0\x28\0\xc8\3bye\0\0\0\0"    /* 14 bytes: by the code 200 and the text "bye" */
-#define LAPIN_CONNECTION_CLOSE "\0\x0a\0\x32\0\xc8\3bye\0\0\0\0" /* 14 bytes */
-
-static inline bool lapin_channel_close(lapin_connection *c, uint16_t channel) { return lapin_ask(c, channel, LAPIN_CHANNEL_CLOSE, 14) != NULL; }
-
-/* How many messages of each consumer of the channel may be unsettled, 0 for no limit; of the channel as a whole with is_whole. */
-static inline bool lapin_qos(lapin_connection *c, uint16_t channel, uint16_t prefetch, bool is_whole) {
-    unsigned char room[LAPIN_HEAD];
-    lapin_writer w = lapin_method(room, 60, 10);
-    lapin_put_number(&w, 0, 4), lapin_put_number(&w, prefetch, 2), lapin_put_number(&w, is_whole, 1);
-    return lapin_asks(c, channel, lapin_written(&w), NULL) != NULL;
-}
-
-/* PASSIVE, DURABLE, EXCLUSIVE, AUTO_DELETE. With an empty name the broker makes one up. What it is, where found isn't NULL. */
-static inline bool lapin_queue_declare(lapin_connection *c, uint16_t channel, const char *queue, unsigned asked, const lapin_octets *arguments,
-                                       lapin_queue *found) {
-    unsigned char room[LAPIN_HEAD];
-    lapin_writer w = lapin_of_names(room, 50, 10, queue, NULL, NULL);
-    lapin_put_number(&w, asked & 15u, 1);
-    const lapin_fields *fields = lapin_asks(c, channel, lapin_written(&w), lapin_or_none(arguments));
-    if (fields && found) found->name = c->answer, found->messages = fields->messages, found->consumers = fields->consumers;
+static inline bool lapin_tell_queue(const lapin_fields *fields, const char *answer, lapin_queue *found) {
+    if (fields && found) found->name = answer, found->messages = fields->messages, found->consumers = fields->consumers;
     return fields != NULL;
 }
 
-static inline bool lapin_queue_bind(lapin_connection *c, uint16_t channel, const char *queue, const char *exchange, const char *routing_key,
-                                    const lapin_octets *arguments) {
-    unsigned char room[LAPIN_HEAD];
-    lapin_writer w = lapin_of_names(room, 50, 20, queue, exchange, routing_key);
-    lapin_put_number(&w, 0, 1);
-    return lapin_asks(c, channel, lapin_written(&w), lapin_or_none(arguments)) != NULL;
-}
-
-static inline bool lapin_queue_unbind(lapin_connection *c, uint16_t channel, const char *queue, const char *exchange, const char *routing_key,
-                                      const lapin_octets *arguments) {
-    unsigned char room[LAPIN_HEAD];
-    lapin_writer w = lapin_of_names(room, 50, 50, queue, exchange, routing_key);
-    return lapin_asks(c, channel, lapin_written(&w), lapin_or_none(arguments)) != NULL;
-}
-
-/* IF_UNUSED, IF_EMPTY. How many messages it had, where count isn't NULL. */
-static inline bool lapin_queue_delete(lapin_connection *c, uint16_t channel, const char *queue, unsigned asked, uint64_t *count) {
-    unsigned char room[LAPIN_HEAD];
-    lapin_writer w = lapin_of_names(room, 50, 40, queue, NULL, NULL);
-    lapin_put_number(&w, lapin_bit(asked, LAPIN_IF_UNUSED, 0) | lapin_bit(asked, LAPIN_IF_EMPTY, 1), 1);
-    const lapin_fields *fields = lapin_asks(c, channel, lapin_written(&w), NULL);
+static inline bool lapin_tell_count(const lapin_fields *fields, uint64_t *count) {
     if (fields && count) *count = fields->number;
     return fields != NULL;
-}
-
-/* How many messages were dropped, where count isn't NULL. */
-static inline bool lapin_queue_purge(lapin_connection *c, uint16_t channel, const char *queue, uint64_t *count) {
-    unsigned char room[LAPIN_HEAD];
-    lapin_writer w = lapin_of_names(room, 50, 30, queue, NULL, NULL);
-    lapin_put_number(&w, 0, 1);
-    const lapin_fields *fields = lapin_asks(c, channel, lapin_written(&w), NULL);
-    if (fields && count) *count = fields->number;
-    return fields != NULL;
-}
-
-/* PASSIVE, DURABLE, AUTO_DELETE, INTERNAL. The kind is direct, fanout, topic, headers, or one of the broker's own. */
-static inline bool lapin_exchange_declare(lapin_connection *c, uint16_t channel, const char *exchange, const char *kind, unsigned asked,
-                                          const lapin_octets *arguments) {
-    unsigned char room[LAPIN_HEAD];
-    lapin_writer w = lapin_of_names(room, 40, 10, exchange, kind, NULL);
-    lapin_put_number(&w, (asked & 3u) | lapin_bit(asked, LAPIN_AUTO_DELETE, 2) | lapin_bit(asked, LAPIN_INTERNAL, 3), 1);
-    return lapin_asks(c, channel, lapin_written(&w), lapin_or_none(arguments)) != NULL;
-}
-
-/* IF_UNUSED. */
-static inline bool lapin_exchange_delete(lapin_connection *c, uint16_t channel, const char *exchange, unsigned asked) {
-    unsigned char room[LAPIN_HEAD];
-    lapin_writer w = lapin_of_names(room, 40, 20, exchange, NULL, NULL);
-    lapin_put_number(&w, lapin_bit(asked, LAPIN_IF_UNUSED, 0), 1);
-    return lapin_asks(c, channel, lapin_written(&w), NULL) != NULL;
-}
-
-static inline bool lapin_exchange_bind(lapin_connection *c, uint16_t channel, const char *destination, const char *source, const char *routing_key,
-                                       const lapin_octets *arguments) {
-    unsigned char room[LAPIN_HEAD];
-    lapin_writer w = lapin_of_names(room, 40, 30, destination, source, routing_key);
-    lapin_put_number(&w, 0, 1);
-    return lapin_asks(c, channel, lapin_written(&w), lapin_or_none(arguments)) != NULL;
-}
-
-/* NO_LOCAL, NO_ACK, EXCLUSIVE. With an empty tag the broker makes one up, which stands in c->answer. The consumer's number, 0 where it failed. */
-static inline uint64_t lapin_consume(lapin_connection *c, uint16_t channel, const char *queue, const char *tag, unsigned asked,
-                                     const lapin_octets *arguments) {
-    unsigned char room[LAPIN_HEAD];
-    lapin_writer w = lapin_of_names(room, 60, 20, queue, tag, NULL);
-    lapin_put_number(&w, lapin_bit(asked, LAPIN_NO_LOCAL, 0) | lapin_bit(asked, LAPIN_NO_ACK, 1) | lapin_bit(asked, LAPIN_EXCLUSIVE, 2), 1);
-    const lapin_fields *fields = lapin_asks(c, channel, lapin_written(&w), lapin_or_none(arguments));
-    return fields ? fields->number : 0;
-}
-
-static inline bool lapin_cancel(lapin_connection *c, uint16_t channel, const char *tag) {
-    unsigned char room[LAPIN_HEAD];
-    lapin_writer w = lapin_method(room, 60, 30);
-    lapin_put_short(&w, lapin_text(tag)), lapin_put_number(&w, 0, 1);
-    return lapin_asks(c, channel, lapin_written(&w), NULL) != NULL;
 }
 
 /* The parts of a message that is the answer. */
@@ -256,16 +131,125 @@ static inline void lapin_part(const char *answer, lapin_delivered *message) {
     message->body.at = message->properties.at + of->properties, message->body.length = of->body;
 }
 
+static inline bool lapin_tell_message(const lapin_fields *fields, const char *answer, lapin_delivered *message, bool *is_there) {
+    if (!fields) return false;
+    *is_there = fields->kind == LAPIN_REPLY_MESSAGE;
+    if (*is_there) message->numbers = fields->message, lapin_part(answer, message);
+    return true;
+}
+
+/* ---- the calls */
+
+/* Has this method done. */
+static inline bool lapin_does(lapin_connection *c, uint16_t channel, lapin_octets method) { return lapin_asks(c, channel, method, NULL) != NULL; }
+
+static inline bool lapin_channel_open(lapin_connection *c, uint16_t channel) {
+    unsigned char room[LAPIN_HEAD];
+    return lapin_does(c, channel, lapin_channel_open_method(room));
+}
+
+static inline bool lapin_channel_close(lapin_connection *c, uint16_t channel) { return lapin_does(c, channel, lapin_close_method(true)); }
+
+static inline bool lapin_confirm_select(lapin_connection *c, uint16_t channel) {
+    unsigned char room[LAPIN_HEAD];
+    return lapin_does(c, channel, lapin_confirm_select_method(room));
+}
+
+static inline bool lapin_recover(lapin_connection *c, uint16_t channel) {
+    unsigned char room[LAPIN_HEAD];
+    return lapin_does(c, channel, lapin_recover_method(room));
+}
+
+static inline bool lapin_tx_select(lapin_connection *c, uint16_t channel) {
+    unsigned char room[LAPIN_HEAD];
+    return lapin_does(c, channel, lapin_tx_select_method(room));
+}
+
+static inline bool lapin_tx_commit(lapin_connection *c, uint16_t channel) {
+    unsigned char room[LAPIN_HEAD];
+    return lapin_does(c, channel, lapin_tx_commit_method(room));
+}
+
+static inline bool lapin_tx_rollback(lapin_connection *c, uint16_t channel) {
+    unsigned char room[LAPIN_HEAD];
+    return lapin_does(c, channel, lapin_tx_rollback_method(room));
+}
+
+/* How many messages of each consumer of the channel may be unsettled, 0 for no limit; of the channel as a whole with is_whole. */
+static inline bool lapin_qos(lapin_connection *c, uint16_t channel, uint16_t prefetch, bool is_whole) {
+    unsigned char room[LAPIN_HEAD];
+    return lapin_does(c, channel, lapin_qos_method(room, prefetch, is_whole));
+}
+
+/* PASSIVE, DURABLE, EXCLUSIVE, AUTO_DELETE. With an empty name the broker makes one up. What it is, where found isn't NULL. */
+static inline bool lapin_queue_declare(lapin_connection *c, uint16_t channel, const char *queue, unsigned asked, const lapin_octets *arguments,
+                                       lapin_queue *found) {
+    unsigned char room[LAPIN_HEAD];
+    const lapin_fields *fields = lapin_asks(c, channel, lapin_queue_declare_method(room, queue, asked), lapin_or_none(arguments));
+    return lapin_tell_queue(fields, c->answer, found);
+}
+
+static inline bool lapin_queue_bind(lapin_connection *c, uint16_t channel, const char *queue, const char *exchange, const char *routing_key,
+                                    const lapin_octets *arguments) {
+    unsigned char room[LAPIN_HEAD];
+    return lapin_asks(c, channel, lapin_queue_bind_method(room, queue, exchange, routing_key), lapin_or_none(arguments)) != NULL;
+}
+
+static inline bool lapin_queue_unbind(lapin_connection *c, uint16_t channel, const char *queue, const char *exchange, const char *routing_key,
+                                      const lapin_octets *arguments) {
+    unsigned char room[LAPIN_HEAD];
+    return lapin_asks(c, channel, lapin_queue_unbind_method(room, queue, exchange, routing_key), lapin_or_none(arguments)) != NULL;
+}
+
+/* IF_UNUSED, IF_EMPTY. How many messages it had, where count isn't NULL. */
+static inline bool lapin_queue_delete(lapin_connection *c, uint16_t channel, const char *queue, unsigned asked, uint64_t *count) {
+    unsigned char room[LAPIN_HEAD];
+    return lapin_tell_count(lapin_asks(c, channel, lapin_queue_delete_method(room, queue, asked), NULL), count);
+}
+
+/* How many messages were dropped, where count isn't NULL. */
+static inline bool lapin_queue_purge(lapin_connection *c, uint16_t channel, const char *queue, uint64_t *count) {
+    unsigned char room[LAPIN_HEAD];
+    return lapin_tell_count(lapin_asks(c, channel, lapin_queue_purge_method(room, queue), NULL), count);
+}
+
+/* PASSIVE, DURABLE, AUTO_DELETE, INTERNAL. The kind is direct, fanout, topic, headers, or one of the broker's own. */
+static inline bool lapin_exchange_declare(lapin_connection *c, uint16_t channel, const char *exchange, const char *kind, unsigned asked,
+                                          const lapin_octets *arguments) {
+    unsigned char room[LAPIN_HEAD];
+    return lapin_asks(c, channel, lapin_exchange_declare_method(room, exchange, kind, asked), lapin_or_none(arguments)) != NULL;
+}
+
+/* IF_UNUSED. */
+static inline bool lapin_exchange_delete(lapin_connection *c, uint16_t channel, const char *exchange, unsigned asked) {
+    unsigned char room[LAPIN_HEAD];
+    return lapin_does(c, channel, lapin_exchange_delete_method(room, exchange, asked));
+}
+
+static inline bool lapin_exchange_bind(lapin_connection *c, uint16_t channel, const char *destination, const char *source, const char *routing_key,
+                                       const lapin_octets *arguments) {
+    unsigned char room[LAPIN_HEAD];
+    return lapin_asks(c, channel, lapin_exchange_bind_method(room, destination, source, routing_key), lapin_or_none(arguments)) != NULL;
+}
+
+/* NO_LOCAL, NO_ACK, EXCLUSIVE. With an empty tag the broker makes one up, which stands in c->answer. The consumer's number, 0 where it failed. */
+static inline uint64_t lapin_consume(lapin_connection *c, uint16_t channel, const char *queue, const char *tag, unsigned asked,
+                                     const lapin_octets *arguments) {
+    unsigned char room[LAPIN_HEAD];
+    const lapin_fields *fields = lapin_asks(c, channel, lapin_consume_method(room, queue, tag, asked), lapin_or_none(arguments));
+    return fields ? fields->number : 0;
+}
+
+static inline bool lapin_cancel(lapin_connection *c, uint16_t channel, const char *tag) {
+    unsigned char room[LAPIN_HEAD];
+    return lapin_does(c, channel, lapin_cancel_method(room, tag));
+}
+
 /* NO_ACK. The oldest message of a queue, where is_there: how many the queue still has stands in c->fields.messages. */
 static inline bool lapin_get(lapin_connection *c, uint16_t channel, const char *queue, unsigned asked, lapin_delivered *message, bool *is_there) {
     unsigned char room[LAPIN_HEAD];
-    lapin_writer w = lapin_of_names(room, 60, 70, queue, NULL, NULL);
-    lapin_put_number(&w, lapin_bit(asked, LAPIN_NO_ACK, 0), 1);
-    const lapin_fields *fields = lapin_asks(c, channel, lapin_written(&w), NULL);
-    if (!fields) return false;
-    *is_there = fields->kind == LAPIN_REPLY_MESSAGE;
-    if (*is_there) message->numbers = fields->message, lapin_part(c->answer, message);
-    return true;
+    const lapin_fields *fields = lapin_asks(c, channel, lapin_get_method(room, queue, asked), NULL);
+    return lapin_tell_message(fields, c->answer, message, is_there);
 }
 
 #endif

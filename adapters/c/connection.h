@@ -113,35 +113,43 @@ static inline uint32_t lapin_tells(lapin_connection *c, uint64_t confirm) {
     return outcome;
 }
 
+/* Queues a publish, for which there is room: whether that was done, and the number of its confirm. */
+static inline bool lapin_queue_up(lapin_connection *c, uint16_t channel, bool mandatory, const lapin_returned *message, uint64_t *confirm) {
+    lapin_publications *p = &c->publications;
+    lapin_kept *kept = NULL;
+    if (p->aside || p->kept) lapin_look_at_oldest(c, p->to, p->aside ? 2 : 1);
+    if (!lapin_more_publications(p)) return lapin_fails(c, "no memory");
+    if (mandatory && !(kept = lapin_keep(p, channel, message))) return lapin_fails(c, "no memory");
+    uint32_t status = lapin_publish(&c->session, channel, message->exchange.at, message->exchange.length, message->routing_key.at,
+                                    message->routing_key.length, mandatory, false, message->body.at, message->body.length, message->properties.at,
+                                    message->properties.length, confirm);
+    if (status) return lapin_let_go(p, kept), lapin_refuses(c, channel, status);
+    lapin_add(p, *confirm, channel, kept), c->waiting += message->body.length + message->properties.length + 64;
+    return true;
+}
+
+/* What a caller publishes. Its names end by a zero; the properties are a list, as lapin_put_properties writes it, and NULL for none. */
+static inline lapin_returned lapin_outgoing(const char *exchange, const char *routing_key, const void *body, size_t length,
+                                            const lapin_octets *properties) {
+    static const lapin_octets NONE = {"\0", 2};
+    lapin_returned message = {0, {"", 0}, {exchange, *exchange ? strlen(exchange) : 0}, {routing_key, strlen(routing_key)}, {NULL, 0},
+                              {(const char *)body, length}};
+    message.properties = properties ? *properties : NONE;
+    return message;
+}
+
 /* Queues a publish, which leaves with the next call that waits: true, and the number of its confirm. Once some 64 KiB of publishes wait they
  * leave first, within the timeout. Where it answers false nothing was published. The properties are a list, as lapin_put_properties writes it; NULL
  * for none. */
 static inline bool lapin_publish_bytes(lapin_connection *c, uint16_t channel, const char *exchange, const char *routing_key, bool mandatory,
                                        const void *body, size_t length, const lapin_octets *properties, uint64_t *confirm) {
-    static const lapin_octets NONE = {"\0", 2};
     int before = errno;
-    lapin_publications *p = &c->publications;
-    lapin_kept *kept = NULL;
-    lapin_octets list = properties ? *properties : NONE;
-    size_t exchange_length = *exchange ? strlen(exchange) : 0, key_length = strlen(routing_key);
+    lapin_returned message = lapin_outgoing(exchange, routing_key, body, length, properties);
     if (!lapin_enter(c)) return false;
     bool is_done = !c->is_lost || lapin_lose(c, c->lost);
-    if (is_done && !list.at) is_done = lapin_fails(c, "publish: its properties were not written whole");
+    if (is_done && !message.properties.at) is_done = lapin_fails(c, "publish: its properties were not written whole");
     if (is_done && c->waiting >= LAPIN_ENOUGH) is_done = lapin_is_alive(c) && lapin_flush_until(c, lapin_until(c->timeout));
-    if (is_done && (p->aside || p->kept)) lapin_look_at_oldest(c, p->to, p->aside ? 2 : 1);
-    if (is_done && !lapin_more_publications(p)) is_done = lapin_fails(c, "no memory");
-    if (is_done && mandatory) {
-        lapin_returned message = {0, {"", 0}, {exchange, exchange_length}, {routing_key, key_length}, list,
-                                  {(const char *)body, length}};
-        if (!(kept = lapin_keep(p, channel, &message))) is_done = lapin_fails(c, "no memory");
-    }
-    if (is_done) {
-        uint32_t status = lapin_publish(&c->session, channel, exchange, exchange_length, routing_key, key_length, mandatory, false, body, length, list.at,
-                                        list.length, confirm);
-        is_done = status == LAPIN_DONE;
-        if (is_done) lapin_add(p, *confirm, channel, kept), c->waiting += length + list.length + 64;
-        else lapin_let_go(p, kept), lapin_refuses(c, channel, status);
-    }
+    is_done = is_done && lapin_queue_up(c, channel, mandatory, &message, confirm);
     c->is_inside = false, errno = before;
     return is_done;
 }
@@ -198,6 +206,17 @@ static inline uint32_t lapin_publish_text(lapin_connection *c, uint16_t channel,
 
 /* ---- messages of consumers, and the end */
 
+/* What a consumer was handed, by the status of its delivery. Its octets lie in the answer. */
+static inline bool lapin_hand_over(lapin_connection *c, uint64_t consumer, uint32_t status, lapin_delivered *message) {
+    size_t place = consumer % LAPIN_REMEMBERED;
+    uint16_t channel = c->consumers[place].consumer == consumer ? c->consumers[place].channel : 0;
+    if (status == LAPIN_GONE) return lapin_fails(c, "the consumer is at its end");
+    if (status == LAPIN_REFUSED) return lapin_refuses(c, channel, status);
+    if (status || !lapin_told(c)) return lapin_lose(c, "no memory for a message");
+    lapin_part(c->answer, message);
+    return true;
+}
+
 /* What a consumer was handed, as lapin_next says. */
 static inline bool lapin_takes(lapin_connection *c, uint64_t consumer, lapin_delivered *message, uint64_t until) {
     uint32_t status;
@@ -208,13 +227,7 @@ static inline bool lapin_takes(lapin_connection *c, uint64_t consumer, lapin_del
         is_late = lapin_now() >= until;
         if (!lapin_turn_until(c, until) && !c->is_lost) return false;
     }
-    size_t place = consumer % LAPIN_REMEMBERED;
-    uint16_t channel = c->consumers[place].consumer == consumer ? c->consumers[place].channel : 0;
-    if (status == LAPIN_GONE) return lapin_fails(c, "the consumer is at its end");
-    if (status == LAPIN_REFUSED) return lapin_refuses(c, channel, status);
-    if (status || !lapin_told(c)) return lapin_lose(c, "no memory for a message");
-    lapin_part(c->answer, message);
-    return true;
+    return lapin_hand_over(c, consumer, status, message);
 }
 
 /* The next message of a consumer within the time; -1 for ever. */

@@ -137,11 +137,18 @@ static inline bool lapin_more_publications(lapin_publications *p) {
     return true;
 }
 
-static inline void lapin_let_go(lapin_publications *p, lapin_kept *kept) {
-    if (!kept) return;
+/* It is counted no more, and stands in no chain: whoever has it frees it. */
+static inline void lapin_part_with(lapin_publications *p, lapin_kept *kept) {
     lapin_unchain(p, kept);
     p->kept--;
-    free(kept->text), free(kept);
+}
+
+static inline void lapin_free_kept(lapin_kept *kept) {
+    if (kept) free(kept->text), free(kept);
+}
+
+static inline void lapin_let_go(lapin_publications *p, lapin_kept *kept) {
+    if (kept) lapin_part_with(p, kept), lapin_free_kept(kept);
 }
 
 static inline lapin_octets lapin_copied(char **room, lapin_octets from) {

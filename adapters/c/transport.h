@@ -186,9 +186,9 @@ static inline char *lapin_more_leaving(lapin_connection *c, size_t length) {
     return lapin_fails(c, "no memory"), (char *)NULL;
 }
 
-/* Takes what may leave out of the session, until some 64 KiB wait: where fewer do, that was all. */
-static inline bool lapin_collect(lapin_connection *c) {
-    while (c->leaving_to - c->leaving_from < LAPIN_ENOUGH) {
+/* Takes what may leave out of the session, until so many bytes wait: where fewer do, that was all. */
+static inline bool lapin_collect_up_to(lapin_connection *c, size_t enough) {
+    while (c->leaving_to - c->leaving_from < enough) {
         uint32_t status = lapin_send(&c->session, true, LAPIN_ENOUGH);
         if (status == LAPIN_NO_MEMORY) return lapin_fails(c, "no memory");
         if (status) return lapin_lose(c, status == LAPIN_TOO_LONG ? "a frame was too long" : "the session takes nothing further");
@@ -203,6 +203,9 @@ static inline bool lapin_collect(lapin_connection *c) {
     }
     return true;
 }
+
+/* The same until some 64 KiB wait. */
+static inline bool lapin_collect(lapin_connection *c) { return lapin_collect_up_to(c, LAPIN_ENOUGH); }
 
 /* Hands bytes of the broker to the session. */
 static inline bool lapin_take_in(lapin_connection *c, const void *bytes, size_t length) {
@@ -247,18 +250,24 @@ static inline bool lapin_push(lapin_connection *c) {
 /* What a wait ended by. */
 enum { LAPIN_FAILED, LAPIN_LATE, LAPIN_CAME, LAPIN_TAKES };
 
+/* What the clock says, as lapin_beat does; where a heartbeat is due it waits to leave then. */
+static inline uint32_t lapin_pulse(lapin_connection *c, uint64_t now, uint64_t *wait) {
+    uint32_t due = lapin_beat(&c->clock, now, wait);
+    if (due == LAPIN_SILENT) lapin_lose(c, "the broker was silent for two heartbeats");
+    if (due != LAPIN_SEND) return due;
+    char *room = c->leaving_from < c->leaving_to ? NULL : lapin_more_leaving(c, 8);
+    if (room) memcpy(room, LAPIN_HEARTBEAT, 8), c->leaving_to += 8;
+    c->clock.sent = now; /* what waits is a sign of life as well, once it leaves */
+    return due;
+}
+
 /* Waits until bytes came, and hears them; until the socket takes bytes again, where some wait; or until then. */
 static inline int lapin_step(lapin_connection *c, uint64_t until) {
     bool is_full = c->leaving_from < c->leaving_to;
     uint64_t now = lapin_now(), beat = 0;
-    uint32_t due = lapin_beat(&c->clock, now, &beat);
-    if (due == LAPIN_SILENT) return lapin_lose(c, "the broker was silent for two heartbeats"), LAPIN_FAILED;
-    if (due == LAPIN_SEND) {
-        char *room = is_full ? NULL : lapin_more_leaving(c, 8);
-        if (room) memcpy(room, LAPIN_HEARTBEAT, 8), c->leaving_to += 8;
-        c->clock.sent = now; /* what waits is a sign of life as well, once it leaves */
-        return LAPIN_TAKES;
-    }
+    uint32_t due = lapin_pulse(c, now, &beat);
+    if (due == LAPIN_SILENT) return LAPIN_FAILED;
+    if (due == LAPIN_SEND) return LAPIN_TAKES;
     struct pollfd ready = {c->socket, (short)(is_full ? POLLIN | POLLOUT : POLLIN), 0};
     int found = poll(&ready, 1, lapin_left(now, due == LAPIN_WAIT && until > now && beat < until - now ? now + beat : until));
     if (found < 0 && errno != EINTR) return lapin_lose(c, strerror(errno)), LAPIN_FAILED;
