@@ -89,7 +89,7 @@ static inline bool lapin_answered(lapin_connection *c, uint16_t channel, lapin_o
 /* Makes a call of these octets, and of a table behind them where there is one. */
 static inline const lapin_fields *lapin_asks(lapin_connection *c, uint16_t channel, lapin_octets head, const lapin_octets *table) {
     int before = errno;
-    lapin_octets method;
+    lapin_octets method = {NULL, 0};
     if (!lapin_enter(c)) return NULL;
     bool is_done = lapin_spell(c, head, table, &method) && lapin_is_alive(c) && lapin_answered(c, channel, method, lapin_until(c->timeout));
     c->is_inside = false, errno = before;

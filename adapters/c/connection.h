@@ -185,14 +185,18 @@ static inline uint32_t lapin_wait(lapin_connection *c, uint64_t confirm) {
 /* The message that came back with the outcome that was told last, NULL where none did. It is good until the next outcome is asked for. */
 static inline const lapin_returned *lapin_came_back(const lapin_connection *c) { return c->returned.text.at ? &c->returned : NULL; }
 
-/* Nobody will ask for the outcome of this publish. */
-static inline void lapin_set_aside(lapin_connection *c, uint64_t confirm) {
-    int before = errno;
-    if (!lapin_enter(c)) return;
+static inline void lapin_put_aside(lapin_connection *c, uint64_t confirm) {
     lapin_publication *of = lapin_find(&c->publications, confirm);
     if (!of) lapin_forget(&c->session, confirm);
     else if (of->outcome) lapin_let_go(&c->publications, lapin_tell(&c->publications, of));
     else if (!of->is_aside) of->is_aside = true, c->publications.aside++;
+}
+
+/* Nobody will ask for the outcome of this publish. */
+static inline void lapin_set_aside(lapin_connection *c, uint64_t confirm) {
+    int before = errno;
+    if (!lapin_enter(c)) return;
+    lapin_put_aside(c, confirm);
     c->is_inside = false, errno = before;
 }
 
