@@ -12,9 +12,11 @@
 #include <fcntl.h>
 #include <signal.h>
 
-/* What the thread does. It dozes for a millisecond where something went on before, so that what is queued meanwhile needs no call. */
+/* What the thread does. It dozes for a millisecond where something went on before, so that what is queued meanwhile needs no call. A caller that
+ * waits alone waits for the socket itself, so that it need not be woken; meanwhile the thread is aside, and looks each few milliseconds whether that
+ * goes on. Where several wait it has the socket, for so many milliseconds at least. */
 enum { LAPIN_AWAKE, LAPIN_DOZES, LAPIN_SLEEPS };
-enum { LAPIN_DOZE = 1, LAPIN_SOME = 1 << 15 };
+enum { LAPIN_DOZE = 1, LAPIN_ASIDE = 3, LAPIN_CROWDED = 100, LAPIN_SOME = 1 << 15 };
 
 /* What a caller waits for. */
 enum { LAPIN_FOR_REPLY, LAPIN_FOR_OUTCOME, LAPIN_FOR_MESSAGE, LAPIN_FOR_ROOM, LAPIN_FOR_LEAVING, LAPIN_FOR_BLOCKED, LAPIN_FOR_END };
@@ -36,8 +38,11 @@ typedef struct lapin_shared {
     lapin_bounds bounds;
     pthread_t thread;
     int socket;   /* of the thread alone: its descriptor of the same socket */
-    int calls[2]; /* by the second the thread is called, which polls the first */
+    int calls[2]; /* a pair: the thread polls the first and is called by the second; a caller that waits for the socket the other way round */
     unsigned rest;
+    struct lapin_caller *leader; /* who waits for the socket in the thread's place; NULL where nobody does */
+    uint64_t leads, crowded;     /* how often somebody did, and until when nobody is to */
+    bool is_aside;               /* the thread does not wait for the socket */
     bool is_full;    /* the kernel takes nothing just now */
     bool is_dirty;   /* something was queued that did not leave */
     bool is_closing; /* by this side */
@@ -200,6 +205,13 @@ static inline void lapin_step_out(lapin_caller *mine) {
     s->rooms -= mine->awaits == LAPIN_FOR_ROOM, s->leavers -= mine->awaits == LAPIN_FOR_LEAVING;
 }
 
+static inline void lapin_wake(lapin_caller *each) {
+    const lapin_shared *s = each->shared;
+    each->is_done = true;
+    if (s->leader == each) (void)!send(s->calls[0], "", 1, MSG_NOSIGNAL | MSG_DONTWAIT);
+    else pthread_cond_signal(&each->woken);
+}
+
 /* Gives those that wait what is there for them, the first first. Publishes get room in this order too, so that no long one waits for ever. */
 static inline void lapin_rouse(lapin_shared *s) {
     bool has_room = true;
@@ -207,7 +219,7 @@ static inline void lapin_rouse(lapin_shared *s) {
         bool is_publish = each->awaits == LAPIN_FOR_ROOM && each->number;
         next = each->next;
         if (is_publish && !has_room) continue;
-        if (lapin_try(each)) lapin_step_out(each), each->is_done = true, pthread_cond_signal(&each->woken);
+        if (lapin_try(each)) lapin_step_out(each), lapin_wake(each);
         else if (is_publish) has_room = false;
     }
 }
@@ -270,12 +282,46 @@ static inline void lapin_finish(lapin_caller *mine) {
     errno = before;
 }
 
+/* Reads what is there, once. Where that answers this side's close, the connection has ended by it. */
+static inline void lapin_hear_out(lapin_shared *s) {
+    lapin_connection *c = &s->core;
+    lapin_states states;
+    if (c->is_lost || !lapin_hear(c) || !s->is_closing) return;
+    if (lapin_state(&c->session, 0, &states) || states.connection != LAPIN_CONNECTION_CLOSED) return;
+    s->is_well = true;
+    lapin_lose(c, "it was closed");
+}
+
+/* Waits for the socket in the thread's place, once, until then: whether that could be waited for. */
+static inline bool lapin_lead(lapin_caller *mine, uint64_t until) {
+    lapin_shared *s = mine->shared;
+    char calls[64];
+    struct pollfd ready[2] = {{s->socket, (short)(s->is_full ? POLLIN | POLLOUT : POLLIN), 0}, {s->calls[1], POLLIN, 0}};
+    s->leader = mine, s->leads++;
+    pthread_mutex_unlock(&s->lock);
+    int found = poll(ready, 2, until == UINT64_MAX ? 60000 : lapin_left(lapin_now(), until)), error = errno;
+    pthread_mutex_lock(&s->lock);
+    s->leader = NULL;
+    if (found < 0) return error == EINTR;
+    if (ready[1].revents) (void)!recv(s->calls[1], calls, sizeof calls, MSG_DONTWAIT);
+    if (ready[0].revents & POLLOUT) s->is_full = false;
+    if (ready[0].revents & ~POLLOUT) lapin_hear_out(s);
+    if (ready[0].revents) lapin_send_off(s), lapin_rouse(s);
+    if (s->core.is_lost && !s->is_over) lapin_tell_all(s);
+    return true;
+}
+
 /* Waits until then, or until this caller has what it waits for: whether it has. The lock is free meanwhile. */
 static inline bool lapin_wait_in_line(lapin_caller *mine, uint64_t until) {
     lapin_shared *s = mine->shared;
     lapin_line_up(mine);
     if (s->is_dirty) lapin_send_off(s); /* who waits sends what others wait for, too */
     if (s->core.is_lost && !s->is_over) lapin_tell_all(s);
+    bool is_alone = s->first == mine && s->last == mine && !s->leader && (!s->crowded || lapin_now() >= s->crowded), has_led = is_alone;
+    if (!is_alone && s->is_aside && !s->leader) lapin_nudge(s, true);
+    while (is_alone && !mine->is_done && (until == UINT64_MAX || lapin_now() < until)) is_alone = lapin_lead(mine, until);
+    if (has_led && s->first && s->first != s->last) s->crowded = lapin_now() + LAPIN_CROWDED;
+    if (has_led && s->first) lapin_nudge(s, true); /* for those that wait on */
     while (!mine->is_done && (until == UINT64_MAX || lapin_now() < until)) {
         struct timespec limit;
         memset(&limit, 0, sizeof limit);
@@ -329,25 +375,19 @@ static inline int lapin_look_around(lapin_shared *s, bool was_active) {
     return is_active && wait > LAPIN_DOZE ? LAPIN_DOZE : (int)wait;
 }
 
-/* Reads what is there, once. Where that answers this side's close, the connection has ended by it. */
-static inline void lapin_hear_out(lapin_shared *s) {
-    lapin_connection *c = &s->core;
-    lapin_states states;
-    if (c->is_lost || !lapin_hear(c) || !s->is_closing) return;
-    if (lapin_state(&c->session, 0, &states) || states.connection != LAPIN_CONNECTION_CLOSED) return;
-    s->is_well = true;
-    lapin_lose(c, "it was closed");
-}
-
 static inline void *lapin_serve(void *given) {
     lapin_shared *s = (lapin_shared *)given;
     lapin_connection *c = &s->core;
     bool is_active = true;
     char calls[64];
     int wait;
+    uint64_t leads = 0;
     pthread_mutex_lock(&s->lock);
     while ((wait = lapin_look_around(s, is_active)) >= 0) {
-        struct pollfd ready[2] = {{s->socket, (short)(s->is_full ? POLLIN | POLLOUT : POLLIN), 0}, {s->calls[0], POLLIN, 0}};
+        s->is_aside = s->leader || (s->leads != leads && !s->first), leads = s->leads;
+        if (s->is_aside && wait > LAPIN_ASIDE) wait = LAPIN_ASIDE;
+        int events = (s->is_aside ? 0 : POLLIN) | (s->is_full ? POLLOUT : 0);
+        struct pollfd ready[2] = {{events ? s->socket : -1, (short)events, 0}, {s->calls[0], POLLIN, 0}};
         pthread_mutex_unlock(&s->lock);
         int found = poll(ready, 2, wait), error = errno;
         pthread_mutex_lock(&s->lock);
@@ -357,8 +397,7 @@ static inline void *lapin_serve(void *given) {
         is_active = found > 0 && (ready[0].revents & ~POLLOUT) != 0;
         if (is_active) lapin_hear_out(s);
     }
-    close(s->socket);
-    s->socket = -1;
+    shutdown(s->socket, SHUT_RDWR); /* it is closed once no caller is left that may wait for it */
     pthread_mutex_unlock(&s->lock);
     return NULL;
 }

@@ -23,7 +23,7 @@ static inline void begin_shared(int count, char **words, uint16_t heartbeat, lap
     lapin_options options = LAPIN_OPTIONS;
     options.limits.heartbeat = heartbeat;
     if (count < 3) fprintf(stderr, "%s HOST PORT ..\n", words[0]), exit(2);
-    need(&first, lapin_shared_connect_with(&first, words[1], words[2], "guest", "guest", "/", &options, &bounds, 10000));
+    need(&first, lapin_shared_connect_with(&first, words[1], words[2], "guest", "guest", "/", &options, &bounds, 60000));
 }
 
 /* So many threads do this from a worker on, each as its own caller. */
