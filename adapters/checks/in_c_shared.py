@@ -1,15 +1,19 @@
 """The connection for C that threads share, compiled here, against the scripted broker; and against a RabbitMQ through a relay that cuts."""
+import collections
 import os
 import random
 import re
 import struct
 import subprocess
+import threading
 import time
 
+import lapin
 import scripted
-from checks.common import address, said, test
+from checks.common import address, rabbit, said, test
 from checks.in_c_library import by, program
 from checks.schedules import Confirming, in_order, ready, scheduled
+from checks.with_celery import Relay
 from scripted import Broker, HungUp
 
 SHARED = ("-pthread",)
@@ -36,13 +40,13 @@ def serve(peer, most=20):
 
 def outcomes(threads, channels, each, window, *more):
     """Has the program publish, and compares each outcome with what the broker said of that body. What the broker noted."""
-    noted = []
+    noted, made = [], shared("outcomes")
 
     def script(peer):
         peer.open(frame_max=131072)
         noted.append(serve(peer))
     with Broker(script) as url:
-        lines = said(shared("outcomes"), *address(url), threads, channels, each, window, *more).splitlines()
+        lines = said(made, *address(url), threads, channels, each, window, *more).splitlines()
     found, [confirming] = dict(line.split(" ", 1) for line in lines), noted
     right = {body.decode(): what for body, what in confirming.said.items()}
     assert len(found) == threads * each and found == right, [(body, it, right.get(body)) for body, it in found.items() if it != right.get(body)][:5]
@@ -75,8 +79,8 @@ def c_shared_withstands_a_hundred_random_schedules():
 
 
 def consumed(messages, pause, heartbeat=0):
-    """Has the program consume beside publishers; each acknowledgement is of a message that was sent, and comes once. What came, and the longest silence."""
-    acks, silence = [], [0.0]
+    """Has the program consume beside publishers; each acknowledgement is of a message that was sent, and comes once. The longest silence."""
+    acks, silence, made = [], [0.0], shared("consumers")
 
     def script(peer):
         peer.open(frame_max=131072, heartbeat=heartbeat)
@@ -115,7 +119,7 @@ def consumed(messages, pause, heartbeat=0):
                 peer.send(scripted.method(0, 10, 51))
                 return
     with Broker(script) as url:
-        told = said(shared("consumers"), *address(url), messages, pause)
+        told = said(made, *address(url), messages, pause)
     assert f"{messages} messages, {messages} and {messages} acks" in told, told
     assert sorted(acks) == list(range(1, messages + 1)), (len(acks), len(set(acks)))
     return silence[0]
@@ -133,6 +137,8 @@ def c_shared_handler_that_works_long_loses_nothing():
 
 def ending(how, then=lambda peer: None):
     """What the eight that wait are told, by their numbers, and the last line."""
+    made = shared("ends")
+
     def script(peer):
         peer.open(frame_max=131072)
         peer.declined = []
@@ -144,7 +150,7 @@ def ending(how, then=lambda peer: None):
         except HungUp:
             pass
     with Broker(script) as url:
-        lines = said(shared("ends"), *address(url), how).splitlines()
+        lines = said(made, *address(url), how).splitlines()
     return dict(line.split(": ", 1) for line in lines[:-1]), lines[-1]
 
 
@@ -203,7 +209,7 @@ def c_shared_goes_on_behind_a_cancelled_thread():
 
 @test
 def c_shared_keeps_its_times_where_the_broker_does_not_read():
-    count = []
+    count, made = [], shared("unread")
 
     def script(peer):
         confirms(peer)
@@ -224,9 +230,57 @@ def c_shared_keeps_its_times_where_the_broker_does_not_read():
         peer.open(frame_max=131072)
         peer.channel(1, confirms=True)
     with Broker(script) as url:
-        told = said(shared("unread"), *address(url))
+        told = said(made, *address(url))
         taken, acks = map(int, re.findall(r"\d+", told))
         assert taken == acks == len(count) and taken > 4, (told, len(count))
+
+
+def drained(channel, queue):
+    """What a queue has."""
+    found = set()
+    while message := channel.get(queue, no_ack=True):
+        found.add(message.body.decode())
+    return found
+
+
+def soaked(url, each, cuts, seconds):
+    """Eight threads publish so many messages each to one queue of a RabbitMQ, beside two that consume, by one connection. So many connections a relay
+    cuts, each within the seconds; the threads go on by another one. What was told of how many publishes, and how many connections there were."""
+    made, queue, relay, chance = shared("soak"), "shared-in-c", Relay(*address(url)), random.Random(11)
+    told, taken, froms, lives = {}, set(), [0] * 8, 0
+    with lapin.connect(url) as connection:
+        channel = connection.channel()
+        channel.queue_declare(queue, durable=True)
+        channel.queue_purge(queue)
+        while min(froms) < each:
+            words = [made, "127.0.0.1", relay.port, queue, each, *froms]
+            if lives < cuts:
+                threading.Timer(chance.uniform(0.1, seconds), relay.cut).start()
+            done = subprocess.run([str(it) for it in words], stdout=subprocess.PIPE, stderr=subprocess.STDOUT, text=True, timeout=300, check=False)
+            lives += 1
+            assert done.returncode in (0, 1) and lives < 2 * cuts + 20, (done.returncode, done.stdout[-300:])
+            for line in done.stdout.splitlines():
+                kind, body, *outcome = line.split(" ", 2)
+                if kind == "p":
+                    assert body not in told, f"{body} was told twice"
+                    told[body] = outcome[0]
+                    froms[int(body.split(".")[0])] = int(body.split(".")[1]) + 1
+                elif kind == "m":
+                    taken.add(body)
+        taken |= drained(channel, queue)
+        channel.queue_delete(queue)
+    for body, outcome in told.items():
+        is_lost = body.endswith("9")
+        assert outcome in ("error", "returned" if is_lost else "ack"), (body, outcome)
+        assert not (outcome == "ack" and body not in taken) and not (is_lost and body in taken), (body, outcome)
+    assert len(told) == 8 * each
+    return collections.Counter(told.values()), lives
+
+
+@rabbit
+def rabbitmq_and_threads_that_share_a_connection_in_c(url):
+    counts, lives = soaked(url, 1500, 5, 0.5)
+    assert counts["ack"] > 3000 and counts["returned"] > 300 and lives > 2, (counts, lives)
 
 
 WATCHED = [c_shares_a_channel_among_eight_threads, c_shares_a_connection_among_eight_threads_and_channels, c_shared_keeps_its_bound_of_confirms,
@@ -240,7 +294,8 @@ def has_sanitizer(flag):
     with open(source, "w", encoding="utf-8") as file:
         file.write("int main(void) { return 0; }\n")
     words = [os.environ.get("CC", "cc"), flag, "-o", f"{source}.out", source]
-    return not subprocess.run(words, stderr=subprocess.DEVNULL, check=False).returncode and not subprocess.run([f"{source}.out"], check=False).returncode
+    is_made = not subprocess.run(words, stderr=subprocess.DEVNULL, check=False).returncode
+    return is_made and not subprocess.run([f"{source}.out"], check=False).returncode
 
 
 @test

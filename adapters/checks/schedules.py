@@ -3,6 +3,7 @@ with what the broker said."""
 import random
 import select
 import struct
+import subprocess
 import zlib
 
 import scripted
@@ -162,19 +163,19 @@ class Schedule:
         counts = {}
         for line in lines:
             kind, name, what = line.split(" ", 2) if line[0] != "m" else ("m", "", "")
-            is_well = {"m": True, "c": what == "yes" or not self.is_plain, "p": what == said.get(name) or (what == "error" and not self.is_plain)}[kind]
-            assert is_well, f"{self.seed}: {line} where the broker said {said.get(name)}"
+            is_error = what in ("error", "no") and not self.is_plain
+            assert is_error or kind == "m" or what == ("yes" if kind == "c" else said.get(name)), f"{self.seed}: {line} where the broker said {said.get(name)}"
             counts[kind + what] = counts.get(kind + what, 0) + 1
         return counts
 
 
 def scheduled(words, seed, rounds):
     """Plays so many schedules from a seed on to a program, which is run by these words of an address; how often each thing was told."""
-    import subprocess
     schedules, counts, came = [Schedule(seed + k) for k in range(rounds)], {}, iter(range(rounds))
     with Broker(lambda peer: schedules[next(came)].play(peer), many=True) as url:
         host, _, port = url.split("@")[1].rstrip("/").partition(":")
-        done = subprocess.run([*words, host, port, str(seed), str(rounds)], stdout=subprocess.PIPE, stderr=subprocess.STDOUT, text=True, timeout=600)
+        words = [*words, host, port, str(seed), str(rounds)]
+        done = subprocess.run(words, stdout=subprocess.PIPE, stderr=subprocess.STDOUT, text=True, timeout=600, check=False)
         assert done.returncode == 0, f"status {done.returncode}: {done.stdout[-2000:]}"
     lines, place = [], 0
     for line in done.stdout.splitlines():

@@ -1,5 +1,5 @@
-/* Consumers beside publishers: shared_consumers HOST PORT MESSAGES PAUSE. Four threads ask for the messages of one consumer, one of them by a handler;
- * each second message is acknowledged by another thread. Two others publish as many meanwhile. The first message of the handler takes PAUSE
+/* Consumers beside publishers: shared_consumers HOST PORT MESSAGES PAUSE. Four threads ask for the messages of one consumer, one of them by a
+ * handler; each second message is acknowledged by another thread. Two others publish as many meanwhile. The first message of the handler takes PAUSE
  * milliseconds. Each message comes once, to each thread in the order of its tags. */
 #include "threads.h"
 

@@ -1,4 +1,4 @@
-/* The ends of a shared connection: shared_ends HOST PORT HOW. Eight threads wait, each for something else, some without a time: the connection is closed
+/* The ends of a shared connection: shared_ends HOST PORT HOW. Eight threads wait, each for something else, most without a time: it is closed
  * from another thread (close), or the broker hangs up (cut); or the process is forked (fork), or a thread that waits is cancelled (cancel). Each that
  * waits is told why, in its own words, and in time. */
 #include "threads.h"

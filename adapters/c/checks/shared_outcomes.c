@@ -1,5 +1,5 @@
-/* Each confirm is its own: shared_outcomes HOST PORT THREADS CHANNELS EACH WINDOW [CONFIRMS]. So many threads publish EACH messages, on one channel or
- * on several; each third is mandatory, and each second thread asks for its youngest outcome first. A line for each says its body and its outcome.
+/* Each confirm is its own: shared_outcomes HOST PORT THREADS CHANNELS EACH WINDOW [CONFIRMS]. So many threads publish EACH messages, on one channel
+ * or on several; each third is mandatory, and each second thread asks for its youngest outcome first. A line for each says its body and its outcome.
  * At most CONFIRMS have none. */
 #include "threads.h"
 

@@ -1,4 +1,4 @@
-/* Random schedules: shared_random HOST PORT SEED ROUNDS. In each round eight threads share a connection, and each does what its seed says: it publishes,
+/* Random schedules: shared_random HOST PORT SEED ROUNDS. In each round eight threads share a connection, and each does as its seed says: it publishes,
  * asks for outcomes of its own and of others, makes calls, takes messages and settles them, and in some rounds one of them closes the connection.
  * What each was told is printed: `p BODY OUTCOME`, `c BODY yes|no`, `m TAG`, and behind the round whether it was lost. The broker judges. */
 #include "threads.h"
@@ -23,7 +23,8 @@ static void publish(worker *w, unsigned number, uint64_t *state) {
     char body[32];
     uint64_t confirm = 0;
     snprintf(body, sizeof body, "%u.%u", w->number, number);
-    bool is_done = lapin_shared_publish(&w->mine, (uint16_t)(1 + chance(state, CHANNELS)), "", "q", chance(state, 3) == 0, body, strlen(body), NULL, &confirm);
+    uint16_t channel = (uint16_t)(1 + chance(state, CHANNELS));
+    bool is_done = lapin_shared_publish(&w->mine, channel, "", "q", chance(state, 3) == 0, body, strlen(body), NULL, &confirm);
     pthread_mutex_lock(&mine);
     its->thread = w->number, its->number = number, its->confirm = confirm, its->kind = is_done ? 'p' : 'x';
     pthread_mutex_unlock(&mine);
@@ -59,8 +60,10 @@ static void call(worker *w, unsigned number, uint64_t *state) {
     w->mine.timeout = 10000;
     bool is_done = lapin_shared_queue_declare(&w->mine, (uint16_t)(1 + chance(state, CHANNELS)), name, 0, NULL, NULL);
     w->mine.timeout = -1;
-    notes[w->number][number].thread = w->number, notes[w->number][number].number = number;
-    notes[w->number][number].kind = 'c', notes[w->number][number].outcome = is_done;
+    pthread_mutex_lock(&mine);
+    note *its = &notes[w->number][number];
+    its->thread = w->number, its->number = number, its->kind = 'c', its->outcome = is_done;
+    pthread_mutex_unlock(&mine);
 }
 
 static void take(worker *w, uint64_t *state) {
@@ -81,7 +84,8 @@ static void *act(void *given) {
         unsigned what = chance(&state, 10);
         if (number == closes) lapin_shared_close(&w->mine);
         if (what < 4) publish(w, number, &state);
-        else if (what < 6) ask(&w->mine, claim(what == 4 ? w->number : 0, what == 4 ? w->number + 1 : (unsigned)MANY, &state), (int)chance(&state, 3) * 10000);
+        else if (what < 5) ask(&w->mine, claim(w->number, w->number + 1, &state), (int)chance(&state, 3) * 10000);
+        else if (what < 6) ask(&w->mine, claim(0, MANY, &state), (int)chance(&state, 3) * 10000);
         else if (what < 7) call(w, number, &state);
         else if (what < 9) take(w, &state);
         else if (chance(&state, 2)) rest(1);
