@@ -7,7 +7,7 @@
  * One thread uses a connection; from another one each call is refused, until it calls lapin_move_here once the first has let go. In a process
  * that was forked the connection is lost, and its parent's goes on. No call is for a signal handler, and one that a jump left ends the
  * connection. What stands in c->session is the connection's; its calls of lapin.h that wait for nothing may be made all the same.
- * POSIX; include it first where you compile by a strict standard (-std=c99).
+ * A connection that many threads use is shared.h's. POSIX; include it first where you compile by a strict standard (-std=c99).
  */
 #ifndef LAPIN_CONNECTION_H
 #define LAPIN_CONNECTION_H

@@ -385,6 +385,7 @@ static inline void *lapin_serve(void *given) {
     pthread_mutex_lock(&s->lock);
     while ((wait = lapin_look_around(s, is_active)) >= 0) {
         s->is_aside = s->leader || (s->leads != leads && !s->first), leads = s->leads;
+        if (s->is_aside) s->rest = LAPIN_DOZES; /* who leads sends before it waits */
         if (s->is_aside && wait > LAPIN_ASIDE) wait = LAPIN_ASIDE;
         int events = (s->is_aside ? 0 : POLLIN) | (s->is_full ? POLLOUT : 0);
         struct pollfd ready[2] = {{events ? s->socket : -1, (short)events, 0}, {s->calls[0], POLLIN, 0}};

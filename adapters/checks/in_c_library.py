@@ -141,4 +141,4 @@ def c_snippets_run(url):
         source = f"{BIN}/snippet{place}.c"
         with open(source, "w", encoding="utf-8") as file:
             file.write(text)
-        said(program(f"snippet{place}", source, more=[f"-I{ADAPTERS}/c"]), host, port)
+        said(program(f"snippet{place}", source, more=[f"-I{ADAPTERS}/c", "-pthread"]), host, port)

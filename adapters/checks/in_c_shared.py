@@ -135,7 +135,7 @@ def c_shared_handler_that_works_long_loses_nothing():
     assert consumed(40, 4000, heartbeat=1) < 1.9
 
 
-def ending(how, then=lambda peer: None):
+def ending(how, then=lambda peer: None, answers_close=True):
     """What the eight that wait are told, by their numbers, and the last line."""
     made = shared("ends")
 
@@ -145,8 +145,9 @@ def ending(how, then=lambda peer: None):
         for number in (1, 2):
             peer.channel(number, confirms=True)
             peer.consume(number, "ab"[number - 1])
+        peer.send(scripted.deliver(2, "b", 1, b"early"))
         try:
-            serve_ends(peer, then)
+            serve_ends(peer, then, answers_close)
         except HungUp:
             pass
     with Broker(script) as url:
@@ -154,9 +155,9 @@ def ending(how, then=lambda peer: None):
     return dict(line.split(": ", 1) for line in lines[:-1]), lines[-1]
 
 
-def serve_ends(peer, then):
-    """Answers the publish `last` and the close alone."""
-    tag, calls = 0, 0
+def serve_ends(peer, then, answers_close):
+    """Answers the publish `last`, the end, and what stands before the eight wait: channels, of which it closes number 3 once, and qos."""
+    tag, calls, has_closed = 0, 0, False
     while True:
         _, channel, payload = peer.frame()
         at = struct.unpack(">HH", payload[:4])
@@ -164,9 +165,18 @@ def serve_ends(peer, then):
             tag += 1
             if peer.content(channel) == b"last":
                 peer.send(scripted.ack(channel, tag))
-        elif at == (10, 50):
+        elif at == (10, 50) and answers_close:
             peer.send(scripted.method(0, 10, 51))
             return
+        elif at == (60, 80):
+            assert tag == 1, "what was published before is there before"
+        elif at == (20, 10):
+            peer.send(scripted.method(channel, 20, 11, bytes(4)))
+            if channel == 3 and not has_closed:
+                peer.send(scripted.channel_close(3, 406, "by the broker"))
+                has_closed = True
+        elif at == (60, 10):
+            peer.send(scripted.method(channel, 60, 11))
         calls += at in ((50, 10), (60, 70))
         if calls == 2:
             calls += 1
@@ -193,6 +203,13 @@ def c_shared_loss_is_told_to_all_that_wait():
         told, last = ending("cut", then)
         assert len(told) == 8 and last.startswith("8 told, not closed, within its time"), (told, last)
         assert all(words in it for it in told.values()), told
+
+
+@test
+def c_shared_wakes_who_waits_for_the_socket():
+    told, last = ending("alone", answers_close=False)
+    assert last.startswith("1 told, not answered, within its time; ConnectionLost: it was closed, and the broker did not answer"), (told, last)
+    assert "this side closes" in told["0"], told
 
 
 @test

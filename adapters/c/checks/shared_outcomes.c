@@ -15,6 +15,7 @@ static void take(worker *w, unsigned long n) {
     snprintf(body, sizeof body, "%u.%lu", w->number, n);
     if ((outcome == LAPIN_RETURNED) != (back != NULL) || (back && (strcmp(back->body.at, body) || back->code != 312))) outcome = 5;
     if (outcome == LAPIN_ERROR || !outcome) need(&w->mine, false);
+    need(&w->mine, lapin_shared_settled(&w->mine, confirms[at]) == LAPIN_ERROR && !strcmp(lapin_shared_error(&w->mine), "AlreadyTaken"));
     outcomes[at] = (char)outcome;
 }
 
