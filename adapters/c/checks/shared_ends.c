@@ -1,6 +1,6 @@
 /* The ends of a shared connection: shared_ends HOST PORT HOW. Eight threads wait, each for something else, most without a time: it is closed from
- * another thread (close), or the broker hangs up (cut); or the process is forked (fork), or one that waits is cancelled (cancel); or one waits alone, and the
- * broker answers no close (alone). Each is told why, in its own words, and in time. */
+ * another thread (close), or the broker hangs up (cut); or the process is forked (fork), or one that waits is cancelled (cancel); or one waits
+ * alone, and the broker answers no close (alone). Each is told why, in its own words, and in time. */
 #include "threads.h"
 
 #include <sys/wait.h>
