@@ -20,13 +20,15 @@ from __future__ import annotations
 import asyncio
 import ssl
 from types import TracebackType
-from typing import TYPE_CHECKING, Any, AsyncIterator, Awaitable, Callable, Coroutine, Dict, Generator, Iterable, List, Mapping, Optional, Sequence, Set, Type, TypeVar, Union
+from typing import TYPE_CHECKING, Any, Callable, Coroutine, Dict, Generator, Iterable, List, Mapping, Optional, Sequence, Set, Type, TypeVar, Union
 
 from . import _asks
+from ._aio_consumers import Consumer as Consumer
 from ._arguments import seconds
 from ._asks import Ask
 from ._confirms import ConfirmCore
-from ._core import ChannelCore, ConsumerCore, Core
+from ._consumers import ConsumerCore
+from ._core import ChannelCore, Core
 from ._library import Clock
 from ._opened import Opened
 from ._sockets import Tries, addresses_of, configured, streams_of
@@ -341,82 +343,6 @@ class Confirm(ConfirmCore):
         """The outcome, once it is there. An error is raised, as by `poll`."""
         connection: Connection = self._channel.connection
         return await connection._until(self.poll, connection._end_of(timeout), self)
-
-
-class Consumer(ConsumerCore):
-    """A consumer: `async for message in consumer`, or a callback, which may be a coroutine function. What a callback raises, and what ended a
-    consumer with a callback, goes to the loop's exception handler."""
-    channel: Channel
-
-    def __init__(self, channel: Channel, number: int, tag: str, no_ack: bool, callback: Optional[Callable[[Message], Any]] = None):
-        super().__init__(channel, number, tag, no_ack)
-        self.callback = callback
-
-    def _ready(self) -> Optional[bool]:
-        if self._take() is None and self._is_done and self._error is not None:
-            raise self._error
-        return True if self._held is not None or self._is_done else None
-
-    def _feed(self) -> None:
-        """Hands what came to the callback."""
-        connection = self.channel.connection
-        while self.callback is not None and not self._is_ending and (message := self._take()) is not None:
-            self._held = None
-            try:
-                given = self.callback(message)
-            except Exception as error:
-                connection._raised("a consumer's callback raised", error)
-                continue
-            if isinstance(given, Awaitable):
-                task = asyncio.ensure_future(given)
-                connection._running.add(task)
-                task.add_done_callback(connection._ran)
-        if self._is_done and connection._ended:
-            connection._loop.call_soon(connection._tell)
-        elif self._is_done and not self._is_ending and not connection._is_closing:
-            connection._raised(f"the consumer {self.tag} ended", self._error)
-
-    async def next(self, timeout: Optional[float] = None) -> Optional[Message]:
-        """The next message, once it is there; None at the consumer's end. The error that ended its channel is raised. Where it is cancelled or
-        its time is up nothing is lost: the message is the next one's."""
-        connection = self.channel.connection
-        await connection._until(self._ready, connection._end_of(timeout))
-        message, self._held = self._held, None
-        return message
-
-    async def __aiter__(self) -> AsyncIterator[Message]:
-        while (message := await self.next()) is not None:
-            yield message
-
-    async def messages(self, inactivity_timeout: float) -> AsyncIterator[Optional[Message]]:
-        """Its messages, and None each time that none came for so many seconds."""
-        while self.is_active or self._held is not None:
-            try:
-                if (message := await self.next(inactivity_timeout)) is None:
-                    return
-                yield message
-            except Timeout:
-                yield None
-
-    async def cancel(self, timeout: Optional[float] = PATIENCE) -> None:
-        """Stops it, and gives back what it had and nobody was given, as the blocking one."""
-        connection = self.channel.connection
-        until = connection._end_of(timeout)
-        connection._session.check_thread()
-        if self._is_done:
-            return
-        self._is_ending = True
-        try:
-            await connection._ask(_asks.cancel(self.channel.number, self.tag), until)
-        except (CallFailed, Refused, ConnectionLost):  # its channel has ended, and the broker has all again
-            pass
-        except BaseException:
-            connection._ending.append(self)
-            raise
-        self._give_back()
-        self._end()
-        connection._soon()
-        connection._tell_soon()
 
 
 def _awaited(make: Callable[Concatenate[int, P], Ask[T]]) -> Callable[Concatenate[Channel, P], Coroutine[Any, Any, T]]:

@@ -10,7 +10,8 @@ from . import _asks
 from ._arguments import seconds
 from ._asks import Ask
 from ._confirms import ConfirmCore
-from ._core import ChannelCore, ConsumerCore, Core
+from ._consumers import ConsumerCore
+from ._core import ChannelCore, Core
 from ._opened import Opened
 from ._sockets import Tries
 from ._urls import targets_of
