@@ -26,34 +26,48 @@ class Consumer(ConsumerCore):
     def _ready(self) -> Optional[bool]:
         if self._take() is None and self._is_done and self._error is not None:
             raise self._error
-        return True if self._held is not None or self._is_done else None
+        if self._held is not None or self._is_done:
+            return True
+        self.channel.connection._watched.add(self.number, self)
+        return None
 
-    def _feed(self) -> None:
-        """Hands what came to the callback."""
-        connection = self.channel.connection
-        while self.callback is not None and not self._is_ending and (message := self._take()) is not None:
-            self._held = None
-            try:
-                given = self.callback(message)
-            except Exception as error:
-                connection._raised("a consumer's callback raised", error)
-                continue
-            if isinstance(given, Awaitable):
-                task = asyncio.ensure_future(given)
-                connection._running.add(task)
-                task.add_done_callback(connection._ran)
-        if self._is_done and connection._ended:
-            connection._loop.call_soon(connection._tell)
-        elif self._is_done and not self._is_ending and not connection._is_closing:
-            connection._raised(f"the consumer {self.tag} ended", self._error)
+    def _call_back(self) -> None:
+        """Hands what it holds to the callback."""
+        call, message, connection = self._callback, self._held, self.channel.connection
+        if call is None or message is None or self._is_ending:
+            return
+        self._held = None
+        try:
+            given = call(message)
+        except Exception as error:
+            return connection._raised("a consumer's callback raised", error)
+        if isinstance(given, Awaitable):
+            task = asyncio.ensure_future(given)
+            connection._running.add(task)
+            task.add_done_callback(connection._ran)
 
     async def next(self, timeout: Optional[float] = None) -> Optional[Message]:
         """The next message, once it is there; None at the consumer's end. The error that ended its channel is raised. Where it is cancelled or
         its time is up nothing is lost: the message is the next one's."""
         connection = self.channel.connection
-        await connection._until(self._ready, connection._end_of(timeout))
-        message, self._held = self._held, None
-        return message
+        try:
+            await connection._until(self._ready, connection._end_of(timeout), self)
+            message, self._held = self._held, None
+            return message
+        finally:
+            if self in connection._asking:
+                self._pass_on()
+
+    def _pass_on(self) -> None:
+        """Who was woken goes: another one that waits is woken where there is more, or the end."""
+        try:
+            is_ready = self._take() is not None or self._is_done
+        except Exception:  # that one meets it
+            is_ready = True
+        if is_ready:
+            self.channel.connection._wake_one(self)
+        else:
+            self.channel.connection._watched.add(self.number, self)
 
     async def __aiter__(self) -> AsyncIterator[Message]:
         while (message := await self.next()) is not None:
@@ -82,7 +96,7 @@ class Consumer(ConsumerCore):
         except (CallFailed, Refused, ConnectionLost):  # its channel has ended, and the broker has all again
             pass
         except BaseException:
-            connection._ending.append(self)
+            connection._end_later(self)
             raise
         self._give_back()
         self._end()

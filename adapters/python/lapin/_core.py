@@ -10,6 +10,7 @@ from ._arguments import body_of, flag, octets_of, whole
 from ._asks import Ask
 from ._confirms import CLOSES, RETURN, UNKNOWN, ConfirmCore, Confirms, Seen, came_back, identity_of
 from ._library import Reply, Session, _here, _publish
+from ._ready import Watch
 from ._values import Message, Returned
 from .errors import CallFailed, CloseReason, ConnectionLost, Error, Refused
 
@@ -40,8 +41,14 @@ class Core:
         self._is_torn = False
         # Channels whose opening nobody waits for any more, and calls and consumers that nobody has.
         self._orphans: Set[int] = set()
-        self._left: List[Tuple[int, Ask[Any]]] = []
-        self._ending: List[ConsumerCore] = []
+        self._left: Dict[int, Ask[Any]] = {}
+        self._ending: Dict[int, ConsumerCore] = {}
+        # Calls and consumers of which an answer or a message is awaited, and those that have one; the numbers of consumers with a callback.
+        self._calls: Watch[Ask[Any]] = Watch(self._session, "ready_reply")
+        self._watched: Watch[ConsumerCore] = Watch(self._session, "ready_consumer")
+        self._answered: Dict[int, Ask[Any]] = {}
+        self._ready: Dict[int, ConsumerCore] = {}
+        self._calling: Set[int] = set()
         # What came says of publishes; whether a close was seen in what came last; and why the connection is gone.
         self._seen, self._has_closed, self._why = Seen(), False, ""
         # The channels of which a close came since it was looked what became of them, 0 for the connection.
@@ -78,37 +85,63 @@ class Core:
             else:
                 done += channel._confirms.settle(tag, is_multiple)
         self._is_blind = False
+        if self._calls.waiting:
+            self._calls.search(self._answered)
+        if self._watched.waiting:
+            self._watched.search(self._ready)
         if self._left or self._ending:
             self._tidy()
         return done
 
     def _tidy(self) -> None:
-        """Undoes what nobody waits for: a message of a get goes back, a consumer is cancelled."""
-        left, self._left = self._left, []
-        for ticket, asked in left:
+        """Undoes what nobody waits for, once it is there: a message of a get goes back, a consumer is cancelled."""
+        for ticket in [it for it in self._answered if it in self._left] if self._left else ():
+            asked = self._answered.pop(ticket)
+            del self._left[ticket]
             try:
                 reply = self._session.reply(ticket)
-            except (Refused, CallFailed):  # an exception fell as it was read, or it brought nothing
-                continue
-            if reply is None:
-                self._left.append((ticket, asked))
-            elif asked.undo is not None:
-                try:
+                if reply is not None and asked.undo is not None:
                     asked.undo(asked.read(reply))
-                except Refused:  # its channel has ended, and all went back
-                    pass
-        self._ending = [consumer for consumer in self._ending if not consumer._give_back()]
+            except (Refused, CallFailed):  # an exception fell as it was read, it brought nothing, or its channel has ended, and all went back
+                pass
+        for number in [it for it in self._ready if it in self._ending] if self._ending else ():
+            consumer = self._ready.pop(number)
+            if not consumer._give_back():
+                self._watched.add(number, consumer)
+
+    def _end_later(self, consumer: ConsumerCore) -> None:
+        """A consumer is ending, and nobody waits for that; what it was handed goes back."""
+        self._ready[consumer.number] = self._ending[consumer.number] = consumer
+
+    def _let_go(self, number: int) -> None:
+        """A consumer has ended."""
+        self._consumers.pop(number, None)
+        self._ending.pop(number, None)
+        self._ready.pop(number, None)
+        self._watched.drop(number)
+        self._calling.discard(number)
+
+    def _has_ended(self, consumer: ConsumerCore) -> None:
+        """A consumer with a callback was found at its end."""
+        raise NotImplementedError
+
+    def _is_called(self) -> None:
+        """A consumer has a callback now, and may have messages."""
 
     def _leave(self, ticket: int, asked: Ask[Any]) -> None:
         """Nobody waits for the answer of a call any more."""
         if asked.undo is not None and not self._is_lost:
-            self._left.append((ticket, asked))
+            self._left[ticket] = asked
+            self._answered.pop(ticket, None)
+            self._calls.add(ticket, asked)
             return
+        self._calls.drop(ticket)
         self._session.forget_call(ticket)  # (nothing, where its answer was read)
 
     def _lost(self, why: str) -> None:
         """The connection is gone: each call and each publish that was open has its end."""
         self._is_lost, self._why = True, self._why or why
+        self._ready.update(self._watched.waiting)
         try:
             self._session.lost()
         except (Error, ValueError, MemoryError):  # the session has ended for want of memory, and tells nothing further
@@ -194,7 +227,7 @@ class Core:
         """Cancels a consumer that nobody has; what it was handed goes back."""
         consumer._is_ending = True
         self._session.forget_call(self._ticket(_asks.cancel(consumer.channel.number, consumer.tag)))
-        self._ending.append(consumer)
+        self._end_later(consumer)
 
     # ---- channels
 
@@ -270,7 +303,7 @@ class ChannelCore:
         """Another channel takes its number: nothing that is called here goes there."""
         self._confirms.take(list(self._confirms.open))
         for consumer in [it for it in self.connection._consumers.values() if it.channel is self]:
-            del self.connection._consumers[consumer.number]
+            self.connection._let_go(consumer.number)
         self._ended_by, self._is_over = self._session.last_close(self.number), True
 
     def _check(self) -> None:
@@ -346,7 +379,7 @@ class ChannelCore:
 
     def _settled(self, consumer: Optional[ConsumerCore], call: str, acker: int, *marks: bool) -> bool:
         """Settles a message of a consumer, or of a get."""
-        if marks[0] and call != "reject" and self._acking - {consumer.number if consumer else 0}:
+        if marks[0] and call != "reject" and len(self._acking) > (consumer is not None and consumer.number in self._acking):
             raise Refused("MultipleRefused: it would settle messages of another consumer of the channel that nobody has seen")
         return self._session.settle(call, acker, *marks)
 

@@ -56,6 +56,8 @@ def _load() -> Any:
         ("return_at", code, [handle, length, address]),
         ("forget", code, [handle, number]),
         ("delivery", code, [handle, number, address]),
+        ("ready_consumer", code, [handle, address, length, length, address]),
+        ("ready_reply", code, [handle, address, length, length, address]),
         ("ack", code, [handle, number, flag]),
         ("nack", code, [handle, number, flag, flag]),
         ("reject", code, [handle, number, flag]),
@@ -411,6 +413,12 @@ class Session:
         if status:
             self.check(status)
         return self._parts(self._message)
+
+    def first_ready(self, kind: str, numbers: int, count: int, place: int) -> int:
+        """The first place from this one on at which one of so many consumers, or calls (`kind` is `ready_consumer` or `ready_reply`), whose numbers
+        lie at this address, has something to be told; `count` where there is none."""
+        status = getattr(_library, "lapin_" + kind)(self._by, numbers, count, place, self._number_at)
+        return self._number.value if status == DONE else count
 
     def settle(self, call: str, acker: int, *marks: bool) -> bool:
         """Calls an acker. Whether the call is sent: not where it was used before, or its channel has ended."""

@@ -27,7 +27,7 @@ from ._aio_consumers import Consumer as Consumer
 from ._arguments import seconds
 from ._asks import Ask
 from ._confirms import ConfirmCore
-from ._consumers import ConsumerCore
+from ._consumers import ConsumerCore, in_turn
 from ._core import ChannelCore, Core
 from ._library import Clock
 from ._opened import Opened
@@ -103,9 +103,9 @@ class Connection(Opened, Core):
         self._reader, self._writer, self._loop = reader, writer, asyncio.get_running_loop()
         writer.transport.set_write_buffer_limits(high=MOST, low=MOST // 2)
         self._clock = Clock(now(), self._agreed.heartbeat)
-        # Who waits for a call or a message looks at each read; who waits for a confirm once that has its outcome.
-        self._waiters: List[asyncio.Future[None]] = []
-        self._asking: Dict[ConfirmCore, List[asyncio.Future[None]]] = {}
+        # Those who wait, in their order, by what for: a confirm, a consumer, the ticket of a call, a channel that has all its outcomes; by None who
+        # looks at each read. Each looks for itself once it is woken, so that nothing is lost where it was cancelled.
+        self._asking: Dict[Any, Dict[asyncio.Future[None], None]] = {}
         self._running: Set[asyncio.Future[Any]] = set()
         self._is_flushing, self._is_feeding, self._is_filling, self._is_closing = False, False, False, False
         self._tasks = [self._loop.create_task(self._read(greeter.data)), self._loop.create_task(self._beat())]
@@ -126,7 +126,7 @@ class Connection(Opened, Core):
                     self._clock.heard(now())
                     done = self._receive(data)
                     self._flush()
-                    self._wake(list(self._asking) if self._has_closed else done)
+                    self._wake(list(self._asking) if self._has_closed else [*done, *{it._channel for it in done}, None])
                     self._tell_soon()
                 data = await self._reader.read(1 << 18)
                 if not data:
@@ -179,6 +179,7 @@ class Connection(Opened, Core):
         finally:
             self._is_filling = False
         self._flush()
+        self._wake([None])  # publishes without confirms have their outcome once they left
 
     def _hand_over(self) -> None:
         self._waiting = 0
@@ -208,24 +209,48 @@ class Connection(Opened, Core):
             except Exception as error:
                 self._raised("a notice's function raised", error)
 
-    def _wake(self, confirms: Iterable[ConfirmCore]) -> None:
-        """Wakes those who wait, and has messages handed to callbacks."""
-        waiters, self._waiters = self._waiters, []
-        for confirm in confirms:
-            waiters += self._asking.pop(confirm, ())
-        for future in waiters:
+    def _wake(self, told: Iterable[Any]) -> None:
+        """Wakes those who wait for one of these or for an answer that came, one of each consumer that has something, and the callbacks."""
+        answered, self._answered = self._answered, {}
+        for key in (*told, *answered):
+            for future in self._asking.pop(key, ()):
+                if not future.done():
+                    future.set_result(None)
+        for number, consumer in list(self._ready.items()):
+            self._wake_one(consumer)
+            if consumer._callback is None and not consumer._is_ending:
+                del self._ready[number]
+        if self._ready:
+            self._is_called()
+
+    def _wake_one(self, consumer: ConsumerCore) -> None:
+        """Wakes the first that waits for a message of a consumer; that one wakes the next."""
+        for future in self._asking.get(consumer, ()):
             if not future.done():
-                future.set_result(None)
-        if not self._is_feeding and any(consumer.callback is not None for consumer in self._consumers.values()):
+                return future.set_result(None)
+
+    def _let_go(self, number: int) -> None:
+        consumer = self._consumers.get(number)
+        super()._let_go(number)
+        self._wake((consumer,))
+
+    def _is_called(self) -> None:
+        if not self._is_feeding:
             self._is_feeding = True
             self._loop.call_soon(self._feed)
 
     def _feed(self) -> None:
         """Hands messages to the callbacks, outside of what reads."""
         self._is_feeding = False
-        for consumer in list(self._consumers.values()):
-            if consumer.callback is not None:
-                consumer._feed()
+        while self._ready:
+            for consumer in in_turn(self):
+                consumer._call_back()
+
+    def _has_ended(self, consumer: ConsumerCore) -> None:
+        if self._ended:
+            self._loop.call_soon(self._tell)
+        elif not consumer._is_ending and not self._is_closing:
+            self._raised(f"the consumer {consumer.tag} ended", consumer._error)
 
     def _raised(self, message: str, error: Optional[BaseException]) -> None:
         self._loop.call_exception_handler({"message": f"lapin: {message}", **({"exception": error} if error else {})})
@@ -243,29 +268,25 @@ class Connection(Opened, Core):
         if self._is_lost or self._is_closed:
             raise ConnectionLost(self._lost_error(), self._session.last_close(0))
 
-    async def _until(self, ready: Callable[[], Optional[T]], until: Optional[float], confirm: Optional[ConfirmCore] = None) -> T:
-        """What is ready is asked for by the one who waits, so that nothing is lost where that one is cancelled."""
-        found = ready()
-        if found is not None:
-            return found
-        self._flush()
+    async def _until(self, ready: Callable[[], Optional[T]], until: Optional[float], key: Any) -> T:
+        """What is ready is asked for by the one who waits, so that nothing is lost where that one is cancelled; by the key it is woken."""
         while (found := ready()) is None:
             self._check()
             if until is not None and self._loop.time() >= until:
                 raise Timeout("nothing came in time; the call goes on")
             future = self._loop.create_future()
-            waiters = self._waiters if confirm is None else self._asking.setdefault(confirm, [])
-            waiters.append(future)
+            self._asking.setdefault(key, {})[future] = None
             handle = None if until is None else self._loop.call_at(until, lambda it=future: it.done() or it.set_result(None))
             try:
                 await future
             finally:
                 if handle:
                     handle.cancel()
-                if future in waiters:
-                    waiters.remove(future)
-                if confirm is not None and not self._asking.get(confirm, True):
-                    del self._asking[confirm]
+                others = self._asking.get(key)
+                if others is not None:
+                    others.pop(future, None)
+                    if not others:
+                        del self._asking[key]
         return found
 
     async def _ask(self, asked: Ask[T], until: Optional[float]) -> T:
@@ -274,13 +295,17 @@ class Connection(Opened, Core):
         if self._is_flushing or self._is_filling:
             self._flush(everything=True)
         ticket = self._ticket(asked)
+        self._calls.add(ticket, asked)
+        self._flush()
         try:
-            answer = await self._until(lambda: self._answer(asked, ticket), until)
+            answer = await self._until(lambda: self._answer(asked, ticket), until, ticket)
         except CallFailed:
+            self._calls.drop(ticket)
             raise
         except BaseException:
             self._leave(ticket, asked)
             raise
+        self._calls.drop(ticket)
         return answer[0]
 
     # ---- what is offered
@@ -342,7 +367,10 @@ class Confirm(ConfirmCore):
     async def wait(self, timeout: Optional[float] = PATIENCE) -> Outcome:
         """The outcome, once it is there. An error is raised, as by `poll`."""
         connection: Connection = self._channel.connection
-        return await connection._until(self.poll, connection._end_of(timeout), self)
+        if self._channel._confirms.is_on:
+            return await connection._until(self.poll, connection._end_of(timeout), self)
+        connection._flush()  # it has its outcome once it left
+        return await connection._until(self.poll, connection._end_of(timeout), None)
 
 
 def _awaited(make: Callable[Concatenate[int, P], Ask[T]]) -> Callable[Concatenate[Channel, P], Coroutine[Any, Any, T]]:
@@ -403,9 +431,7 @@ class Channel(ChannelCore):
                       tag: str = "", arguments: Optional[Dict[str, Any]] = None) -> Consumer:
         """Consumes from a queue. The callback is called with each message; without one, iterate over the consumer."""
         tag, asked = self._asked_consume(queue, tag, no_ack, exclusive, arguments)
-        consumer = Consumer(self, await self._call(asked), tag, bool(no_ack), callback)
-        self.connection._loop.call_soon(consumer._feed)
-        return consumer
+        return Consumer(self, await self._call(asked), tag, bool(no_ack), callback)
 
     async def cancel(self, tag: str, timeout: Optional[float] = PATIENCE) -> None:
         """Cancels the consumer of this channel that has this tag, as its `cancel` does."""
@@ -415,7 +441,8 @@ class Channel(ChannelCore):
         """Waits until each publish of the channel has its outcome. The messages that came back and that no confirm gives."""
         until = self.connection._end_of(timeout)
         self._check()
-        return await self.connection._until(self._unconfirmed, until)
+        self.connection._flush()
+        return await self.connection._until(self._unconfirmed, until, self if self._confirms.is_on else None)
 
     async def close(self) -> None:
         """Closes the channel, and waits for the broker's answer."""

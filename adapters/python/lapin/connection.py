@@ -10,7 +10,7 @@ from . import _asks
 from ._arguments import seconds
 from ._asks import Ask
 from ._confirms import ConfirmCore
-from ._consumers import ConsumerCore
+from ._consumers import ConsumerCore, in_turn
 from ._core import ChannelCore, Core
 from ._opened import Opened
 from ._sockets import Tries
@@ -64,6 +64,8 @@ class Connection(Opened, Core):
         self._agreed, self._addresses = wire.agreed, wire.addresses
         super().__init__(wire.agreed.frame_max, wire.agreed.channel_max or 0xffff)
         self._wire, self._is_inside, self._is_stopping = wire, False, False
+        # What ended consumers with a callback, and `run` hasn't raised yet.
+        self._errors: List[Error] = []
 
     def __enter__(self) -> Connection:
         return self
@@ -251,11 +253,11 @@ class Connection(Opened, Core):
         callback raises comes out here; its message is then as it left it."""
         until = _end_of(timeout)
         self._check()
-        self._is_stopping, had = False, self._has_callbacks()
+        self._is_stopping, had = False, bool(self._calling)
         try:
             while not self._is_stopping and not self._is_closed and (until is None or time.monotonic() < until):
                 if not self.hand_on():
-                    if had and not self._has_callbacks():
+                    if had and not self._calling:
                         return
                     self._turn(until)
         except ConnectionLost:
@@ -264,27 +266,28 @@ class Connection(Opened, Core):
         finally:
             self._is_stopping = False
 
-    def _has_callbacks(self) -> bool:
-        return any(consumer.callback for consumer in self._consumers.values())
+    def _has_ended(self, consumer: ConsumerCore) -> None:
+        if consumer._error is not None:
+            self._errors.append(consumer._error)
 
     def stop(self) -> None:
         """Ends `run` behind the callback that calls this."""
         self._is_stopping = True
 
     def hand_on(self) -> bool:
-        """Hands what came to the callbacks, a message to each. Whether there was anything. The error that ended a consumer is raised."""
+        """Hands what came to the callbacks, as many messages as consumers have some; those of a channel in the order in which they came, whatever
+        consumer has them. Whether there was anything. The error that ended a consumer is raised."""
         found = False
         self._tell()
-        for consumer in list(self._consumers.values()):
-            if consumer.callback is None or consumer._is_ending or self._is_stopping:
-                continue
-            if consumer._take() is not None:
-                found = True
-                consumer.callback(consumer._given())
-            elif consumer._error is not None:
-                raise consumer._error
+        for consumer in in_turn(self):
+            if self._is_stopping:
+                break
+            found = True
+            consumer._call_back()
         if found and not self._is_closed:
             self._move()
+        if self._errors and not self._is_stopping:
+            raise self._errors.pop(0)
         return found
 
     def close(self, timeout: Optional[float] = 5) -> None:
@@ -329,6 +332,10 @@ class Consumer(ConsumerCore):
         super().__init__(channel, number, tag, no_ack)
         self.callback = callback
 
+    def _call_back(self) -> None:
+        if self._callback is not None and self._held is not None and not self._is_ending:
+            self._callback(self._given())
+
     def _ready(self) -> Optional[bool]:
         if self._take() is None and self._is_done and self._error is not None:
             raise self._error
@@ -371,7 +378,7 @@ class Consumer(ConsumerCore):
         except (CallFailed, Refused, ConnectionLost):  # its channel has ended, and the broker has all again
             pass
         except BaseException:
-            connection._ending.append(self)
+            connection._end_later(self)
             raise
         self._give_back()
         self._end()
