@@ -145,14 +145,20 @@ def many_wait_for_one_consumer_and_each_message_is_one_of_theirs():
                 while (message := await consumer.next()) is not None:
                     seen.append(int(message.body))
                     message.ack()
-            tasks = [asyncio.ensure_future(take()) for _ in range(30)]
+            tasks, woken = [asyncio.ensure_future(take()) for _ in range(30)], connection._wake_one
+
+            def wakes(it):
+                woken(it)
+                for at in draw.sample(range(30), 8 * (len(seen) < count)):  # between the message and those that wait for it
+                    tasks[at].cancel()
+            connection._wake_one = wakes
             await channel.queue_declare("go")
             while len(seen) < count:
-                at = draw.randrange(30)
-                tasks[at].cancel()
-                await asyncio.gather(tasks[at], return_exceptions=True)
-                tasks[at] = asyncio.ensure_future(take())
                 await asyncio.sleep(0.001)
+                tasks[:] = [asyncio.ensure_future(take()) if it.done() else it for it in tasks]
+            del connection._wake_one
+            await asyncio.sleep(0.01)
+            tasks[:] = [it for it in tasks if not it.done()]
             await consumer.cancel()
             await asyncio.wait_for(asyncio.gather(*tasks), 20)  # each meets the end
             assert sorted(seen) == list(range(1, count + 1)) and not connection._asking, len(set(seen))
