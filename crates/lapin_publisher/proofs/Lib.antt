@@ -1,0 +1,11 @@
+pub mod AccountCourse
+pub mod Apart
+pub mod ApartCourse
+pub mod Bare
+pub mod Going
+pub mod Numbering
+pub mod Out
+pub mod Rising
+pub mod SameNumbers
+pub mod Taking
+pub mod Turning
