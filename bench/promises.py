@@ -16,7 +16,7 @@ CELL = 200
 FACES = {
     "lapin_machine", "lapin_session", "lapin_loop", "lapin_check", "lapin_joint", "lapin_transcript", "lapin_resend", "lapin_generate",
     "lapin_call", "lapin_shared", "lapin_work", "lapin_pool", "lapin_program", "lapin_frames", "lapin_handshake", "lapin_client", "lapin_c",
-    "lapin_uses",
+    "lapin_uses", "lapin_publisher",
 }
 
 HEAD = """# What is promised, a line each

@@ -20,6 +20,7 @@ CRATES = [
     ("lapin_call", "Requests and replies over queues."),
     ("lapin_resend", "A publisher that sends again."),
     ("lapin_keeping", "Messages that are kept until a broker has answered for them."),
+    ("lapin_publisher", "A publisher that keeps its messages, and its turns with a session."),
     ("lapin_shared", "One session for several threads. What lies under its lock has no line."),
     ("lapin_acker", "Delegates and their verdicts."),
     ("lapin_work", "Workers that take jobs."),
