@@ -1,5 +1,5 @@
 -- Any calls of a publisher are steps of its account.
-use Rattle.std.proofs.Common.{◌≡◌, ◌∙◌, ◌⊎◌, inl, inr, ℕ, zero, suc, ◌+◌, Bool, false, List, [], ◌∷◌, ◌++◌, map, refl, sym, ap, subst, append_assoc, add-one}
+use Rattle.std.proofs.Common.{◌≡◌, ◌∙◌, ◌⊎◌, inl, inr, ℕ, zero, suc, Bool, false, List, [], ◌∷◌, ◌++◌, map, refl, sym, ap, subst, append_assoc, add-one}
 use Rattle.std.specs.List.Sorted.{IsPermutation}
 use Rattle.lapin_machine.specs.World.{World}
 use Rattle.lapin_keeping.specs.declared.fate.Fate.{Fate}

@@ -1,17 +1,13 @@
 -- No two messages share one outstanding publish: each publish takes a number that is greater than all before it.
-use Rattle.std.proofs.Common.{◌≡◌, inl, inr, ℕ, ◌+◌, ◌≤◌, Bool, true, false, cond, List, [], ◌∷◌, ◌++◌, map, Option, Some, None, refl, sym, subst, arith}
+use Rattle.std.proofs.Common.{◌≡◌, inl, inr, ℕ, ◌≤◌, Bool, true, false, cond, List, [], ◌∷◌, ◌++◌, map, Option, Some, None, refl, sym, subst, arith}
 use Rattle.std.specs.List.{filter, AllByRecursion}
-use Rattle.lapin_types.specs.declared.confirmation.Confirmation.TheVariants as confirmation
-use Rattle.lapin_types.specs.declared.event.Event.TheVariants as event
 use Rattle.lapin_types.specs.declared.message.BasicReturnMessage.{BasicReturnMessage}
 use Rattle.lapin_types.specs.declared.message.Delivery.{Delivery}
-use Rattle.lapin_types.specs.declared.record.Record.TheVariants as record_
 use Rattle.lapin_keeping.specs.declared.fate.Fate.{Fate}
 use Rattle.lapin_keeping.specs.declared.fate.Fate.TheVariants as fate
 use Rattle.lapin_keeping.specs.declared.kept.Kept.{Kept}
 use Rattle.lapin_keeping.specs.Fates.{returned, returned_at, begun_anew, begun_anew_at}
 use Rattle.lapin_keeping.specs.Returns.{FirstCameBack, IsNoted, AreNoted}
-use Rattle.lapin_publisher.specs.Each.{each}
 use Rattle.lapin_publisher.specs.Shares.{DoNotShare, NoneShare, IsBelow, AreApart}
 
 below_more : (m k : ℕ) (ss : List Kept) → m ≤ k → AllByRecursion (IsBelow m) ss → AllByRecursion (IsBelow k) ss

@@ -2,6 +2,7 @@ pub mod AccountCourse
 pub mod Apart
 pub mod ApartCourse
 pub mod Bare
+pub mod Causing
 pub mod Going
 pub mod Numbering
 pub mod Out

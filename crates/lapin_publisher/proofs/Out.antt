@@ -3,7 +3,6 @@ use Rattle.std.proofs.Common.{◌≡◌, ◌∙◌, ◌⊎◌, inl, inr, ℕ, �
 use Rattle.std.specs.Bool.{MatchBool}
 use Rattle.std.specs.List.{filter, AllByRecursion}
 use Rattle.std.specs.Option.{is_some}
-use Rattle.lapin_types.specs.declared.event.Event.TheVariants as event
 use Rattle.lapin_types.specs.declared.record.Record.{Record}
 use Rattle.lapin_types.specs.declared.record.Record.TheVariants as record_
 use Rattle.lapin_rules.specs.Wire.{Wire, state_of, is_open}
@@ -67,7 +66,7 @@ aside_state c (record_.Publish ticket confirm) w = refl
 aside_state c (record_.Ticket ticket) w = refl
 aside_state c _ w = refl
 
-still_open : (c : ℕ) (w : World) (k : Kept) → is_open (state_of c w.wire) ≡ true → is_open (state_of c (called c (publish_of k.message) w).wire) ≡ true
+pub still_open : (c : ℕ) (w : World) (k : Kept) → is_open (state_of c w.wire) ≡ true → is_open (state_of c (called c (publish_of k.message) w).wire) ≡ true
 still_open c w k opened =
     ap is_open (aside_state c (told_by w (publishing c k)) (next w (publishing c k)) ∙ publish_state c w k) ∙ opened
 

@@ -1,3 +1,4 @@
+pub mod Causes
 pub mod Courses
 pub mod Due
 pub mod Each

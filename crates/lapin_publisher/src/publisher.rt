@@ -1,11 +1,13 @@
 //! A publisher, its turns with a session, and how it goes from one session to the next.
 
-ghost use Rattle.std.specs.Prelude.{◌≡◌, ◌+◌, ◌++◌, ◌∷◌, [], true, false, map, length, ◌&&◌, ◌==◌, IfOk, OnOk, OnErr, MatchOption};
+ghost use Rattle.std.specs.Prelude.{◌≡◌, ◌+◌, ◌++◌, ◌∷◌, [], true, false, map, length, count_by, ◌&&◌, ◌==◌, IfOk, OnOk, OnErr, MatchOption};
+ghost use Rattle.std.specs.Option.{is_some};
 ghost use Rattle.lapin_types.specs.declared.call.Call.TheVariants as call;
 ghost use Rattle.lapin_rules.specs.Wire.{state_of, is_closed as is_closed_lem, is_open as is_open_lem};
 ghost use Rattle.lapin_machine.specs.Numbers.{CallCause};
-ghost use Rattle.lapin_keeping.specs.Fates.{begun_anew};
+ghost use Rattle.lapin_keeping.specs.Fates.{begun_anew, waits};
 ghost use Rattle.lapin_keeping.specs.Keepings.{new_kept};
+ghost use Rattle.lapin_publisher.specs.Causes.{TurnCause};
 ghost use Rattle.lapin_publisher.specs.Opening.{opened, selected};
 ghost use Rattle.lapin_publisher.specs.Publishes.{Stopped};
 ghost use Rattle.lapin_publisher.specs.Turns.{IsTurn, IsTurnInPart, IsLeft, OnlyMessages, published_all};
@@ -63,7 +65,9 @@ impl Publisher {
 
     /// How the messages stand.
     pub fn stand(&self) -> Stand
-        ensures { (result.handed ≡ self.now.keeping.handed) × (result.kept ≡ length self.now.keeping.kept.items) }
+        ensures all { (result.handed ≡ self.now.keeping.handed) × (result.kept ≡ length self.now.keeping.kept.items) }
+        ensures outstanding { result.outstanding ≡ count_by (λ k. is_some k.outstanding) self.now.keeping.kept.items }
+        ensures failed { result.failed ≡ count_by (λ k. waits k && k.failed) self.now.keeping.kept.items }
     {
         self.keeping.stand()
     }
@@ -82,6 +86,7 @@ impl Publisher {
     pub fn tend(&mut self, alloc: Global, session: &mut Session, turn: Turn) -> Result<(), Error>
         ensures ok { OnOk result (IsTurn turn session.old session.new self.old.keeping self.new.keeping self.old.selects self.new.selects) }
         ensures err { OnErr result (IsTurnInPart turn session.old session.new self.old.keeping self.new.keeping self.old.selects self.new.selects) }
+        ensures cause { TurnCause result session.new.wire }
     {
         poll_all(session, &mut self.keeping)?;
         self.open(alloc, session, turn.channel)?;
@@ -94,6 +99,7 @@ impl Publisher {
     fn publish(&mut self, alloc: Global, session: &mut Session, turn: Turn) -> Result<(), Error>
         ensures ok { OnOk result ((self.new.keeping.kept.items, session.new) ≡ published_all turn (self.old.selects, session.old) self.old.keeping.kept.items) }
         ensures err { OnErr result (Stopped turn session.old session.new self.old.keeping.kept.items self.new.keeping.kept.items) }
+        ensures cause { TurnCause result session.new.wire }
         ensures others { OnlyMessages self.old.keeping self.new.keeping }
         ensures selects { self.new.selects ≡ self.old.selects }
     {
@@ -105,9 +111,11 @@ impl Publisher {
     }
 
     // Opens the channel where it is closed.
+    #[tactic(auto, using(crate::proofs::Causing::open_cause))]
     fn open(&mut self, alloc: Global, session: &mut Session, channel: u16) -> Result<(), Error>
         ensures ok { OnOk result ((self.new.selects, session.new) ≡ opened channel (self.old.selects, session.old)) }
         ensures err { OnErr result ((session.new ≡ session.old) × (self.new.selects ≡ self.old.selects)) }
+        ensures only { TurnCause result session.new.wire }
         ensures cause { CallCause result channel call.OpenChannel session.old.wire }
         ensures keeping { self.new.keeping ≡ self.old.keeping }
     {
@@ -120,9 +128,11 @@ impl Publisher {
     }
 
     // Selects confirms, without wait, where the channel is open and its opening had no such call.
+    #[tactic(auto, using(crate::proofs::Causing::select_cause))]
     fn select(&mut self, alloc: Global, session: &mut Session, channel: u16) -> Result<(), Error>
         ensures ok { OnOk result ((self.new.selects, session.new) ≡ selected channel (self.old.selects, session.old)) }
         ensures err { OnErr result ((session.new ≡ session.old) × (self.new.selects ≡ self.old.selects)) }
+        ensures only { TurnCause result session.new.wire }
         ensures cause { CallCause result channel (call.ConfirmSelect (record { nowait = true })) session.old.wire }
         ensures keeping { self.new.keeping ≡ self.old.keeping }
     {

@@ -1,8 +1,10 @@
 //! What waits is published.
 
-ghost use Rattle.std.specs.Prelude.{◌≡◌, ◌<◌, OnOk, OnErr};
+ghost use Rattle.std.specs.Prelude.{◌≡◌, ◌<◌, true, OnOk, OnErr};
+ghost use Rattle.lapin_rules.specs.Wire.{state_of, is_open as is_open_lem};
 ghost use Rattle.lapin_types.specs.declared.event.Event.TheVariants as event;
 ghost use Rattle.lapin_machine.specs.World.{next};
+ghost use Rattle.lapin_publisher.specs.Causes.{TurnCause};
 ghost use Rattle.lapin_publisher.specs.Each.{each, IsUntil};
 ghost use Rattle.lapin_publisher.specs.Publishes.{published_one, placed, waiting_placed, all_placed, Stopped};
 
@@ -25,6 +27,7 @@ pub(crate) fn publish_all(
 ) -> Result<(), Error>
     ensures ok { OnOk result ((messages.new.items ≡ (all_placed turn session.old messages.old.items).0) × (session.new ≡ (all_placed turn session.old messages.old.items).1.0)) }
     ensures err { OnErr result (Stopped turn session.old session.new messages.old.items messages.new.items) }
+    ensures cause { is_open_lem (state_of turn.channel session.old.wire) ≡ true → TurnCause result session.new.wire }
 {
     let mut room = Room::of(turn);
     place_each(alloc, session, messages, turn, &mut room)?;
@@ -41,6 +44,7 @@ fn place_each(
 ) -> Result<(), Error>
     ensures ok { OnOk result ((messages.new.items, (session.new, room.new)) ≡ each (placed turn) (session.old, room.old) messages.old.items) }
     ensures err { OnErr result (IsUntil (placed turn) (session.old, room.old) (session.new, room.new) messages.old.items messages.new.items) }
+    ensures cause { is_open_lem (state_of turn.channel session.old.wire) ≡ true → TurnCause result session.new.wire }
 {
     for kept in messages.iter_mut() {
         place(alloc, session, kept, turn, room)?;
@@ -58,6 +62,7 @@ fn place(
 ) -> Result<(), Error>
     ensures ok { OnOk result ((kept.new, (session.new, room.new)) ≡ placed turn (session.old, room.old) kept.old) }
     ensures err { OnErr result ((kept.new ≡ kept.old) × ((session.new ≡ session.old) × (room.new ≡ room.old))) }
+    ensures cause { is_open_lem (state_of turn.channel session.old.wire) ≡ true → TurnCause result session.old.wire }
 {
     if room.left == 0 {
         return Ok(());
@@ -80,6 +85,7 @@ fn place_waiting(
     requires { 0 < room.old.left }
     ensures ok { OnOk result ((kept.new, (session.new, room.new)) ≡ waiting_placed turn (session.old, room.old) kept.old) }
     ensures err { OnErr result ((kept.new ≡ kept.old) × ((session.new ≡ session.old) × (room.new ≡ room.old))) }
+    ensures cause { is_open_lem (state_of turn.channel session.old.wire) ≡ true → TurnCause result session.old.wire }
 {
     if kept.failed && !turn.retry {
         return Ok(());
@@ -94,6 +100,7 @@ fn place_waiting(
 }
 
 // Publishes a message. Its publish is outstanding from then on.
+#[tactic(auto, using(crate::proofs::Causing::publish_cause))]
 fn publish_one(
     alloc: Global,
     session: &mut Session,
@@ -102,6 +109,7 @@ fn publish_one(
 ) -> Result<(), Error>
     ensures ok { OnOk result ((kept.new, session.new) ≡ published_one channel session.old kept.old) }
     ensures err { OnErr result ((kept.new ≡ kept.old) × (session.new ≡ session.old)) }
+    ensures cause { is_open_lem (state_of channel session.old.wire) ≡ true → TurnCause result session.old.wire }
 {
     let message = match kept.message.copied(alloc) {
         Ok(message) => message,
