@@ -4,7 +4,8 @@ installed, which it starts in a folder of its own.
 
     adapters/check.py [--brief] [NAME ..]        with names only the tests whose name has one of them; --brief says failures and the counts alone
 
-The shared object is linked from the proved archive; LAPIN_LIBRARY names another one. The last line counts what passed, what failed and what waits:
+The shared object is linked from the proved archive; LAPIN_LIBRARY names another one. The package's extension is compiled beside it where there is a
+compiler, and tried; LAPIN_CORE=ctypes has all tried without it. The last line counts what passed, what failed and what waits:
 a test that can't pass before something else is there, which is told and counted as neither. The status is 0 where none failed. Such a test that
 passes fails, so that its mark is taken away.
 """
@@ -22,6 +23,7 @@ HERE = os.path.dirname(os.path.abspath(__file__))
 sys.path[:0] = [HERE, f"{HERE}/python"]
 
 import library  # noqa: E402
+import make_extension  # noqa: E402
 import rabbitmq  # noqa: E402
 from checks.common import BIN, TESTS  # noqa: E402
 
@@ -37,6 +39,9 @@ def library_at(out):
         shutil.copy(given, out)
     else:
         library.make(out)
+    why_not = make_extension.make(os.path.join(os.path.dirname(out), make_extension.NAME))
+    if why_not:
+        print(f"the package is tried by ctypes alone, since there is no extension: {why_not}", flush=True)
     os.environ["LAPIN_LIBRARY"] = out
     os.environ["PYTHONPATH"] = f"{HERE}/python"
 

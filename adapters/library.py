@@ -1,6 +1,8 @@
 #!/usr/bin/env python3
 """Links the shared object from the proved archive: library.py OUT.so
 
+Where OUT.so is that of the package, python/lapin/liblapin.so, the package's extension module is compiled beside it, if there is a compiler.
+
 With `library.py --object OUT.o` it is one object in the place of that, of which the names of lapin.h alone are global: c/Makefile makes a shared
 and a static library of it. The archive is made first, and only where `lapin_c` is proved: by `rt lib`, or, where the gate ran in this checkout and left the libraries that
 it proved, over those.
@@ -116,6 +118,13 @@ def make(out):
                         "-Wl,--no-whole-archive", f"{kit()}/c/liblibc_c.a", "-Wl,--gc-sections", f"-Wl,--version-script={script}"], check=True)
 
 
+def extend(out):
+    """Compiles the extension module where the shared object is the package's."""
+    folder = f"{TOP}/adapters/python"
+    if os.path.realpath(os.path.dirname(out)) == os.path.realpath(f"{folder}/lapin"):
+        subprocess.run([sys.executable, f"{folder}/make_extension.py"], check=False)
+
+
 def joined(out, objects):
     """One object of several, of which the names of lapin.h alone are global."""
     subprocess.run(["ld", "-r", "-o", out, *objects], check=True)
@@ -133,5 +142,6 @@ if __name__ == "__main__":
         make_object(os.path.abspath(sys.argv[2]))
     elif len(sys.argv) == 2:
         make(os.path.abspath(sys.argv[1]))
+        extend(os.path.abspath(sys.argv[1]))
     else:
         sys.exit(__doc__)

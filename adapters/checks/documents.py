@@ -11,6 +11,7 @@ import textwrap
 import zipfile
 
 import lapin
+import make_extension
 from checks.common import ADAPTERS, BIN, rabbit, test, within
 from lapin import aio
 
@@ -102,11 +103,19 @@ def wheel_of(folder, library, *words):
     return subprocess.run([sys.executable, f"{folder}/make_wheel.py", *words, folder], stdout=subprocess.PIPE, stderr=subprocess.STDOUT, text=True)
 
 
+def core_of(folder, **env):
+    """What a package that lies in a folder says of itself."""
+    words = [sys.executable, "-c", "import lapin, lapin.aio; print(lapin.__file__, lapin.library_version())"]
+    env = {**{name: value for name, value in os.environ.items() if name not in ("LAPIN_LIBRARY", "LAPIN_CORE")}, **env}
+    return subprocess.run(words, env={**env, "PYTHONPATH": folder}, cwd=BIN, stdout=subprocess.PIPE, text=True, check=True).stdout.strip()
+
+
 @test
 def a_wheel_is_of_a_proved_library_unless_asked():
     folder = f"{BIN}/wheel"
     shutil.copytree(f"{ADAPTERS}/python", folder, ignore=shutil.ignore_patterns("*.so", "__pycache__"))
     shutil.copy(f"{TOP}/LICENSE", folder)
+    shutil.copy(f"{ADAPTERS}/c/lapin.h", folder)
     source, made = f"{BIN}/said.c", f"{BIN}/said.so"
     for proof, words, is_well in (("unproved", [], False), ("unproved", ["--unproved"], True), ("proved", [], True)):
         with open(source, "w", encoding="utf-8") as file:
@@ -115,15 +124,18 @@ def a_wheel_is_of_a_proved_library_unless_asked():
         done = wheel_of(folder, made, *words)
         assert (done.returncode == 0) == is_well and (is_well or "isn't proved" in done.stdout), done.stdout
         assert not is_well or ("+unproved" in done.stdout) == (proof == "unproved"), done.stdout
-    release, proof, text = lapin.library_version().split(" ")
+    release, proof, text, _ = lapin.library_version().split(" ")
     assert (release, len(text)) == (lapin.__version__, 64) and proof in ("proved", "unproved")
-    done = wheel_of(folder, os.environ["LAPIN_LIBRARY"], "--unproved")
-    with zipfile.ZipFile(f"{folder}/{done.stdout.strip()}") as wheel:
-        wheel.extractall(f"{BIN}/installed")
-    words = [sys.executable, "-c", "import lapin, lapin.aio; print(lapin.__file__, lapin.library_version())"]
-    env = {name: value for name, value in os.environ.items() if name != "LAPIN_LIBRARY"}
-    told = subprocess.run(words, env={**env, "PYTHONPATH": f"{BIN}/installed"}, cwd=BIN, stdout=subprocess.PIPE, text=True, check=True).stdout
-    assert told.split(" ", 1)[0].startswith(f"{BIN}/installed") and told.split(" ", 1)[1].strip() == lapin.library_version()
+    made = set()
+    for core in ("extension", "ctypes") if not make_extension.why_not() else ("ctypes",):
+        for name in [wheel_of(folder, os.environ["LAPIN_LIBRARY"], "--unproved", f"--core={core}").stdout.strip().split("\n")[-1] for _ in range(2)]:
+            with open(f"{folder}/{name}", "rb") as file:
+                made.add((core, name, file.read()))
+            with zipfile.ZipFile(f"{folder}/{name}") as wheel:
+                wheel.extractall(f"{BIN}/installed.{core}")
+        told = core_of(f"{BIN}/installed.{core}").split(" ", 1)
+        assert told[0].startswith(f"{BIN}/installed.{core}") and told[1] == f"{release} {proof} {text} {core}", told
+    assert len(made) == len({core for core, _, _ in made}) and len({name for _, name, _ in made}) == 1, "the same octets and tag each time"
 
 
 def listening(name):

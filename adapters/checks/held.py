@@ -72,19 +72,19 @@ def what_is_opened_and_closed_is_let_go():
 
 
 class Refusing:
-    """The shared object, of which calls of these names answer so."""
+    """The sessions, of which these calls have such a status (`checks.cores` has each status of each call of the shared object)."""
 
     def __init__(self, **answers):
-        self.real, self.answers = _library._library, answers
-
-    def __getattr__(self, name):
-        return (lambda *_: self.answers[name]) if name in self.answers else getattr(self.real, name)
+        self.answers, self.real = answers, {}
 
     def __enter__(self):
-        _library._library = self
+        for name, status in self.answers.items():
+            self.real[name] = getattr(_library.Session, name)
+            setattr(_library.Session, name, lambda session, *_, status=status: session.check(status))
 
     def __exit__(self, *_):
-        _library._library = self.real
+        for name, call in self.real.items():
+            setattr(_library.Session, name, call)
 
 
 @test
@@ -98,7 +98,7 @@ def want_of_memory_is_told():
             peer.frame()
         except (HungUp, ConnectionError):
             pass
-    for answers in ({"lapin_receive": _library.NO_MEMORY}, {"lapin_receive": _library.KEPT}, {"lapin_receive": _library.NO_MEMORY, "lapin_lost": _library.ENDED}):
+    for answers in ({"receive": _library.NO_MEMORY}, {"receive": _library.KEPT}, {"receive": _library.NO_MEMORY, "lost": _library.ENDED}):
         with within(20), Broker(script) as url, lapin.connect(url) as connection:
             given = [connection.channel(confirms=True).publish("", "q", b"x")]
             connection.flush()

@@ -7,6 +7,7 @@ import sys
 import tarfile
 
 import lapin
+import make_extension
 from checks.common import ADAPTERS, BIN, rabbit, said, test
 
 #: What is asked of an installed package, with no word of where it lies.
@@ -33,12 +34,14 @@ def folder_of_sources():
     shutil.copytree(f"{ADAPTERS}/python", folder, ignore=shutil.ignore_patterns("*.so", "__pycache__", "tutorials", "bench"))
     shutil.copy(os.environ["LAPIN_LIBRARY"], f"{folder}/lapin/liblapin.so")
     shutil.copy(f"{os.path.dirname(ADAPTERS)}/LICENSE", f"{BIN}/packaged/LICENSE")
+    os.mkdir(f"{BIN}/packaged/adapters/c")
+    shutil.copy(f"{ADAPTERS}/c/lapin.h", f"{BIN}/packaged/adapters/c")
     return folder
 
 
 def run(*words):
     """What a program says that ends well, without what names the package of this checkout."""
-    env = {name: value for name, value in os.environ.items() if name not in ("LAPIN_LIBRARY", "PYTHONPATH")}
+    env = {name: value for name, value in os.environ.items() if name not in ("LAPIN_LIBRARY", "LAPIN_CORE", "PYTHONPATH")}
     done = subprocess.run(words, env=env, cwd=BIN, stdin=subprocess.DEVNULL, stdout=subprocess.PIPE, stderr=subprocess.STDOUT, text=True, timeout=300)
     assert done.returncode == 0, f"{words}: {done.stdout[-800:]}"
     return done.stdout
@@ -57,15 +60,20 @@ def pip_installs_the_package_without_network():
             made.add(file.read())
     assert len(made) == 1, "the same octets each time"
     with tarfile.open(f"{BIN}/{name}") as sdist:
-        assert {"PKG-INFO", "LICENSE", "pyproject.toml"} <= {it.partition("/")[2] for it in sdist.getnames()}
+        held = {it.partition("/")[2] for it in sdist.getnames()}
+    assert {"PKG-INFO", "LICENSE", "pyproject.toml", "lapin.h", "make_extension.py", "lapin/_lapin.c", "lapin/_lapin_values.h"} <= held
     run(*pip, f"{BIN}/{name}")
     assert run(python, "-c", ASK).startswith(f"{place}/lib")
     told = run(f"{place}/bin/lapin")
     assert told.split("\n")[0].startswith(f"lapin {lapin.__version__}") and place in told and lapin.library_version().split(" ")[2] in told, told
+    core = "ctypes" if make_extension.why_not() else "extension"
+    assert f"called by {core}" in told and (core == "ctypes" or f"{place}/lib" in told.split("called by")[1]), told
     if importlib.util.find_spec("kombu") is not None:
         run(python, "-c", KNOWN)
-    run(*pip, "-e", folder)
-    assert run(python, "-c", ASK).strip() == f"{folder}/lapin/__init__.py"
+    for wish in dict.fromkeys((core, "ctypes")):
+        run(*pip, "--config-settings", f"core={wish}", "-e", folder)
+        assert run(python, "-c", ASK).strip() == f"{folder}/lapin/__init__.py"
+        assert run(python, "-c", "import lapin; print(lapin.library_version())").strip().endswith(f" {wish}")
 
 
 pip_installs_the_package_without_network.needs_modules = ("pip", "venv")

@@ -1,4 +1,5 @@
-"""python -m lapin [URL]: which release this is, over which library, whether that was proved and of which text; and whether a broker answers there."""
+"""python -m lapin [URL]: which release this is, over which library and through what it is called, whether that was proved and of which text; and
+whether a broker answers there."""
 from __future__ import annotations
 
 import os
@@ -6,16 +7,18 @@ import sys
 import time
 
 from . import __version__
-from ._library import PATH, library_version
+from ._library import library_version
+from ._loaded import PATH, _extension
 from .connection import connect
 from .errors import Error
 
 
 def told() -> None:
     """Says what is installed."""
-    _, proof, text = library_version().split(" ")
+    _, proof, text, core = library_version().split(" ")
     print(f"lapin {__version__}, Python {sys.version.split()[0]}")
     print(f"library {PATH}, {os.path.getsize(PATH)} octets")
+    print(f"called by {core}{f' {_extension.__file__}' if _extension else ''}")
     print(f"{proof}, of the text {text}")
 
 

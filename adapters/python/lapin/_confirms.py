@@ -12,7 +12,7 @@ from hashlib import blake2b
 from itertools import takewhile
 from typing import Any, Dict, Iterable, List, Optional, Set, Tuple, Union
 
-from ._library import Session, _here, _outcome
+from ._library import Numbered, Session
 from ._octets import is_within
 from ._values import BY_NUMBER, Outcome, Returned
 from .errors import CallFailed, Error, Refused
@@ -57,9 +57,9 @@ def came_back(session: Session, place: int) -> Optional[Returned]:
     return Returned(code, text, exchange, routing_key, properties, body)
 
 
-class ConfirmCore:
+class ConfirmCore(Numbered):
     """The outcome of a publish, once the broker has told it. It is about this publish and no other."""
-    __slots__ = ("_channel", "_number", "_found")
+    __slots__ = ("_channel", "_found")
 
     def __init__(self, channel: Any):
         self._channel, self._number = channel, 0
@@ -150,7 +150,7 @@ class Confirms:
             return confirm._found
         confirm._found = UNTOLD
         self._now.add(confirm)
-        code = _outcome(self._session._by, confirm._number)
+        code = self._session.outcome(confirm._number)
         found: Found = BY_NUMBER.get(code)
         if found is None and (code or self.unread):  # without a message that came back there is none yet
             found = self._beyond(code, confirm._number)
@@ -283,12 +283,11 @@ class Confirms:
     def look(self, confirm: ConfirmCore) -> Found:
         """The outcome of a publish, if it is there."""
         session = self._session
-        if _here() != session._thread:
-            raise session.elsewhere()
+        session.check_thread()
         if self.is_used:
             return self._look_around(confirm)
         confirm._found = UNTOLD
-        code = _outcome(session._by, confirm._number)
+        code = session.outcome(confirm._number)
         confirm._found = found = BY_NUMBER[code] if code in BY_NUMBER else self._beyond(code, confirm._number)
         return found
 

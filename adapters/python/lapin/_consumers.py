@@ -58,6 +58,8 @@ class ConsumerCore:
         except Refused as error:
             found = "end"
             self._error = self.channel._failed(error.words)
+        except MemoryError:
+            raise connection._session.spilled(connection._lose)
         if isinstance(found, str):
             self._end()
         elif found is not None:

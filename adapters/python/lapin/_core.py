@@ -9,7 +9,7 @@ from . import _asks, _octets
 from ._arguments import body_of, flag, octets_of, whole
 from ._asks import Ask
 from ._confirms import CLOSES, RETURN, UNKNOWN, ConfirmCore, Confirms, Seen, came_back, identity_of
-from ._library import Reply, Session, _here, _publish
+from ._library import Reply, Session
 from ._ready import Watch
 from ._values import Message, Returned
 from .errors import CallFailed, CloseReason, ConnectionLost, Error, Refused
@@ -193,6 +193,9 @@ class Core:
         """So much was published that it leaves."""
         raise NotImplementedError
 
+    def _lose(self, why: str) -> None:
+        """Gives the connection up."""
+
     def _make_room(self) -> None:
         """Waits until the broker has read enough of what was published."""
         raise NotImplementedError
@@ -203,6 +206,8 @@ class Core:
             return self._session.call(asked.channel, asked.method) if asked.method else self._session.limit(asked.channel, asked.limit)
         except Refused as error:
             raise Refused(error.words, self._reason(asked.channel, error.words)) from None
+        except MemoryError:
+            raise self._session.spilled(self._lose)
 
     def _answer(self, asked: Ask[T], ticket: int) -> Optional[Tuple[T]]:
         """The value of a call's answer, if it is there."""
@@ -210,6 +215,8 @@ class Core:
             reply = self._session.reply(ticket)
         except CallFailed as error:
             raise self._failed(error.words, asked.channel) from None
+        except MemoryError:
+            raise self._session.spilled(self._lose)
         return None if reply is None else (asked.read(reply),)
 
     def _failed(self, words: str, channel: int) -> CallFailed:
@@ -335,30 +342,21 @@ class ChannelCore:
         octets = body if type(body) is bytes else body_of(body)
         confirm = self._confirm_of(self)
         session, confirms, listed = self._session, self._confirms, _octets.properties_of(properties) if properties else b"\0\0"
-        if _here() != session._thread:
-            raise session.elsewhere()
-        try:
-            to, key = exchange.encode(), routing_key.encode()
-        except (AttributeError, ValueError):
-            to, key = octets_of("exchange", exchange), octets_of("routing_key", routing_key)
+        session.check_thread()
         try:
             if mandatory and flag("mandatory", mandatory) and confirms.is_on:
-                confirms.expect(confirm, identity_of(to, key, listed, octets))
+                confirms.expect(confirm, identity_of(octets_of("exchange", exchange), octets_of("routing_key", routing_key), listed, octets))
             tag = confirms.tag + 1
             if confirms.is_on:
                 if tag > confirms.next:
                     confirms.prune()
                 confirms.open[tag] = confirm
-            status = _publish(session._by, self.number, to, len(to), key, len(key), mandatory, False, octets, len(octets), listed, len(listed),
-                              session._confirm_at)
-            if status:
-                session.check(status)
-            confirm._number = session.last = session._confirm.value
+            session.publish_as(confirm, self.number, exchange, routing_key, octets, listed, mandatory)
             confirms.tag = tag
         except BaseException as error:
             self._unmade(confirm, error)
-            octets_of("exchange", to)
-            octets_of("routing_key", key)
+            octets_of("exchange", exchange)
+            octets_of("routing_key", routing_key)
             raise
         connection._waiting += len(octets) + 64
         if connection._waiting > connection._enough:

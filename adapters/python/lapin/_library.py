@@ -1,6 +1,7 @@
 """The shared library: the opening of a connection, its heartbeats, and the session behind a handle. No socket lives here.
 
-Calls and properties are AMQP's octets; what the session answers are numbers, and octets that are copied out.
+Calls and properties are AMQP's octets; what the session answers are numbers, and octets that are copied out. ctypes makes each call here; where the
+extension is, it makes those of each message in their place.
 """
 from __future__ import annotations
 
@@ -9,8 +10,9 @@ import os
 import threading
 import weakref
 from io import BytesIO
-from typing import Any, NamedTuple, Optional, Tuple, Union
+from typing import TYPE_CHECKING, Any, Callable, NamedTuple, NoReturn, Optional, Tuple, Union
 
+from ._loaded import _extension, _library
 from ._structures import _Clock, _Fields, _Handle, _Message, _Opening, _Place, _Reason, _Refusal, _Return, _States
 from .errors import CallFailed, CloseReason, Refused
 
@@ -27,71 +29,17 @@ REFUSALS = ("", "NoMemory", "NumbersUsedUp", "InvalidChannelState {0}", "Protoco
 ALREADY_TAKEN, UNKNOWN_TICKET = 8, 9
 
 
-#: The shared object: the one that LAPIN_LIBRARY names, or else that of the package.
-PATH = os.environ.get("LAPIN_LIBRARY") or os.path.join(os.path.dirname(os.path.abspath(__file__)), "liblapin.so")
-
-
-def _load() -> Any:
-    library = ctypes.PyDLL(PATH)  # the interpreter's lock is kept: two threads are never behind one handle
-    size, text, code, flag, short = ctypes.c_size_t, ctypes.c_char_p, ctypes.c_uint32, ctypes.c_bool, ctypes.c_uint16
-    # An address, a size and a number of 64 bits are given as a pointer is, which is as wide on the machines of the library. ctypes takes a whole
-    # number for a pointer at once; of the types of numbers and of addresses it first asks whether it was given an object of that type, at two to
-    # three times the price. Who gives an address holds the object.
-    handle = address = length = number = ctypes.c_void_p
-    calls: Tuple[Tuple[str, Any, Any], ...] = (
-        ("version", text, []),
-        ("open", code, [handle, ctypes.c_uint32]),
-        ("close", None, [handle]),
-        ("why", code, [handle, address]),
-        ("answer_length", size, [handle]),
-        ("answer", size, [handle, address, length]),
-        ("call", code, [handle, short, text, length, address]),
-        ("limit", code, [handle, short, number, address]),
-        ("reply", code, [handle, number, address]),
-        ("forget_call", code, [handle, number]),
-        ("publish", code, [handle, short, text, length, text, length, flag, flag, text, length, text, length, address]),
-        ("outcome", code, [handle, number]),
-        ("confirmed", code, [handle, number, address]),
-        ("unclaimed", code, [handle, short, address]),
-        ("return_at", code, [handle, length, address]),
-        ("forget", code, [handle, number]),
-        ("delivery", code, [handle, number, address]),
-        ("ready_consumer", code, [handle, address, length, length, address]),
-        ("ready_reply", code, [handle, address, length, length, address]),
-        ("ack", code, [handle, number, flag]),
-        ("nack", code, [handle, number, flag, flag]),
-        ("reject", code, [handle, number, flag]),
-        ("send", code, [handle, flag, length]),
-        ("leaving_length", size, [handle]),
-        ("leaving", size, [handle, address, length]),
-        ("receive", code, [handle, text, length]),
-        ("lost", code, [handle]),
-        ("state", code, [handle, short, address]),
-        ("is_blocked", flag, [handle]),
-        ("last_close", code, [handle, short, address]),
-        ("shake", code, [address, text, length, text, length, text, length, text, length, text, length, address, length, address, address]),
-        ("server_properties", code, [text, length, address]),
-        ("beat", code, [address, number, address]),
-    )
-    for name, result, given in calls:
-        function: Any = getattr(library, f"lapin_{name}")
-        function.restype, function.argtypes = result, given
-    return library
-
-
-_library = _load()
-
-
 def library_version() -> str:
-    """What the shared object is: its release, `proved` or `unproved`, and the sha-256 of the text that it was made of."""
+    """What the shared object is: its release, `proved` or `unproved`, and the sha-256 of the text that it was made of; and who calls it, `extension`
+    or `ctypes`."""
     words: bytes = _library.lapin_version()
-    return words.decode()
+    return f"{words.decode()} {'ctypes' if _extension is None else 'extension'}"
 
 
+#: How want of memory is told: of an argument ctypes has its own error.
+WANT = (MemoryError, ctypes.ArgumentError)
 #: So many octets of an answer are copied once, and smaller ones as they are cut.
 LARGE = 1 << 18
-_publish = _library.lapin_publish
-_outcome = _library.lapin_outcome
 _here = threading.get_ident
 
 
@@ -184,12 +132,23 @@ class Reply(NamedTuple):
     message: Optional[Parts]
 
 
-class Session:
+class NumberedByCtypes:
+    """A publish by the number of its confirm, 0 until it was accepted."""
+    __slots__ = ("_number",)
+
+    def __init__(self) -> None:
+        self._number = 0
+
+
+class SessionByCtypes:
     """One connection's session. Used by the thread that made it, and by no other one."""
+    #: Whether something that the session gave once couldn't be told, for want of memory: the connection is to be given up.
+    is_astray = False
 
     def __init__(self, frame_max: int):
-        self._handle = _Handle(None, False)
-        self._by = ctypes.addressof(self._handle)
+        if not hasattr(self, "_by"):  # (the extension has a handle of its own)
+            self._handle = _Handle(None, False)
+            self._by = ctypes.addressof(self._handle)
         self._room = ctypes.create_string_buffer(1 << 16)
         self._size = len(self._room)
         self._confirm, self._message, self._reason = ctypes.c_uint64(), _Message(), _Reason()
@@ -241,6 +200,17 @@ class Session:
         if status != DONE:
             raise ValueError("not in the grammar" if status == NOT_IN_GRAMMAR else f"status {status} of the session")
 
+    def astray(self) -> MemoryError:
+        """What is raised where something that the session gave once can't be told."""
+        self.is_astray = True
+        return MemoryError()
+
+    def spilled(self, lose: Callable[[str], None]) -> MemoryError:
+        """What is raised where there was no memory. Where something that the session gave couldn't be told, the connection is lost."""
+        if self.is_astray:
+            lose("there was no memory for what the session gave")
+        return MemoryError()
+
     def _take(self, length: int, function: Any) -> bytes:
         if length > self._size:
             self._room = ctypes.create_string_buffer(2 * length)
@@ -283,7 +253,10 @@ class Session:
         if _here() != self._thread:
             raise self.elsewhere()
         self.check(_library.lapin_call(self._by, channel, method, len(method), self._ticket_at))
-        return self._ticket.value
+        try:
+            return self._ticket.value
+        except WANT:
+            raise self.astray() from None
 
     def limit(self, channel: int, limit: int) -> int:
         """So many publishes of a channel may be outstanding. What the reply is asked by."""
@@ -299,13 +272,20 @@ class Session:
         if status == PENDING:
             return None
         if status == REFUSED:
-            words = self.refusal()
-            raise Refused(words) if self._refusal.kind in (ALREADY_TAKEN, UNKNOWN_TICKET) else CallFailed(words)
+            self.refuse_reply()
         self.check(status)
         found = self._fields
-        kind: int = found.kind
-        text = self._answer().decode(errors="replace") if kind in (QUEUE, CONSUMER) else ""
-        return Reply(kind, found.number, found.messages, found.consumers, text, self._parts(found.message) if kind == MESSAGE else None)
+        try:
+            kind: int = found.kind
+            text = self._answer().decode(errors="replace") if kind in (QUEUE, CONSUMER) else ""
+            return Reply(kind, found.number, found.messages, found.consumers, text, self._parts(found.message) if kind == MESSAGE else None)
+        except WANT:
+            raise self.astray() from None
+
+    def refuse_reply(self) -> NoReturn:
+        """Raises what a reply is that is refused."""
+        words = self.refusal()
+        raise Refused(words) if self._refusal.kind in (ALREADY_TAKEN, UNKNOWN_TICKET) else CallFailed(words)
 
     def forget_call(self, ticket: int) -> bool:
         """The reply of a call will not be asked for any more. Whether it was owed."""
@@ -334,16 +314,24 @@ class Session:
         self.state(0)
         return bool(self._states.connection == CONNECTION_OPEN)
 
-    def publish(self, channel: int, exchange: bytes, routing_key: bytes, body: bytes, properties: bytes = b"\0\0", mandatory: bool = False) -> int:
-        """The number of the confirm of a publish."""
+    def publish_as(self, confirm: Numbered, channel: int, exchange: Union[str, bytes], routing_key: Union[str, bytes], body: bytes, properties: bytes,
+                   mandatory: bool) -> None:
+        """Publishes, and stores the number of the confirm there: 0 stays where nothing was published."""
         if _here() != self._thread:
             raise self.elsewhere()
-        status = _publish(self._by, channel, exchange, len(exchange), routing_key, len(routing_key), mandatory, False, body, len(body),
-                          properties, len(properties), self._confirm_at)
+        to = exchange if isinstance(exchange, bytes) else str.encode(exchange)
+        key = routing_key if isinstance(routing_key, bytes) else str.encode(routing_key)
+        status = _library.lapin_publish(self._by, channel, to, len(to), key, len(key), mandatory, False, body, len(body), properties, len(properties),
+                                        self._confirm_at)
         if status:
             self.check(status)
-        self.last = self._confirm.value
-        return self.last
+        confirm._number = self.last = self._confirm.value
+
+    def publish(self, channel: int, exchange: bytes, routing_key: bytes, body: bytes, properties: bytes = b"\0\0", mandatory: bool = False) -> int:
+        """The number of the confirm of a publish."""
+        confirm = Numbered()
+        self.publish_as(confirm, channel, exchange, routing_key, body, properties, mandatory)
+        return confirm._number
 
     @property
     def last_confirm(self) -> int:
@@ -355,7 +343,7 @@ class Session:
         or where a message came back, so that `confirmed` tells more."""
         if _here() != self._thread:
             raise self.elsewhere()
-        found: int = _outcome(self._by, confirm)
+        found: int = _library.lapin_outcome(self._by, confirm)
         return found
 
     def confirmed(self, confirm: int) -> int:
@@ -412,7 +400,10 @@ class Session:
             return "end"
         if status:
             self.check(status)
-        return self._parts(self._message)
+        try:
+            return self._parts(self._message)
+        except WANT:
+            raise self.astray() from None
 
     def first_ready(self, kind: str, numbers: int, count: int, place: int) -> int:
         """The first place from this one on at which one of so many consumers, or calls (`kind` is `ready_consumer` or `ready_reply`), whose numbers
@@ -465,3 +456,19 @@ class Session:
         if _library.lapin_last_close(self._by, channel, self._reason_at) != DONE:
             return None
         return CloseReason(self._reason.code, self._reason.class_id, self._reason.method_id, self._answer().decode(errors="replace"))
+
+
+if TYPE_CHECKING or _extension is None:
+    Numbered, Session = NumberedByCtypes, SessionByCtypes
+else:
+    Numbered = _extension.Numbered
+
+    class Session(_extension.Handle, SessionByCtypes):
+        """One connection's session, whose calls of each message the extension makes."""
+
+        def reply(self, ticket: int) -> Optional[Reply]:
+            found = self.fields(ticket)
+            try:
+                return None if found is None else Reply(*found)
+            except MemoryError:
+                raise self.astray() from None
