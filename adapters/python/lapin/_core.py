@@ -250,7 +250,7 @@ class Core:
             self._numbers = [it for it in range(1, self._next + 1) if it not in self._orphans and self._session.state(it) == "closed"]
         number = self._numbers.pop() if self._numbers else self._next + 1
         if number > self._channel_max:
-            raise Refused("NoChannelLeft") if self.is_open else Refused("InvalidChannelState down", self._session.last_close(0))
+            raise Refused("NoChannelLeft") if self._session.is_open else Refused("InvalidChannelState down", self._session.last_close(0))
         self._next = max(self._next, number)
         return number
 

@@ -175,7 +175,8 @@ class SessionByCtypes:
         """What a use from another thread or process is told."""
         if self.is_forked:
             return RuntimeError("a connection isn't used by a process that was forked from its own: connect in the child")
-        return RuntimeError("a connection is used by the thread that made it; give each thread its own, or call connection.move_here()")
+        return RuntimeError("a connection is used by the thread that made it: connect with threads=True, give each thread its own, or call "
+                            "connection.move_here()")
 
     def move_here(self) -> None:
         if self.is_forked:

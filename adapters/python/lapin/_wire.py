@@ -202,6 +202,9 @@ class Wire:
         #: How many octets wait for the kernel, and whether a heartbeat is to be sent.
         self.size, self.is_due = 0, False
         self._poll: Optional[Tuple[select.poll, int]] = None
+        #: A descriptor by which another thread calls the one that waits, and whether it did.
+        self.bell: Optional[int] = None
+        self.is_called = False
 
     def send(self, data: bytes) -> None:
         """Hands octets to the kernel, behind those that wait; what it doesn't take now waits."""
@@ -294,12 +297,20 @@ class Wire:
         held, self._poll = self._poll, None  # (a signal's handler may wait too)
         if held is None:
             held = select.poll(), 0
+            if self.bell is not None:
+                held[0].register(self.bell, select.POLLIN)
         poll, known = held
         if known != mask:
             poll.register(self.socket, mask)
         found = poll.poll(pause * 1000 + (pause > 0))
         self._poll = poll, mask
-        return found[0][1] if found else 0
+        ready = 0
+        for descriptor, events in found:
+            if descriptor == self.bell:
+                self.is_called = True
+            else:
+                ready = events
+        return ready
 
     def close(self) -> None:
         self._queue.clear()
