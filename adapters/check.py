@@ -29,7 +29,8 @@ from checks.common import BIN, TESTS  # noqa: E402
 
 # They name the package, which loads the shared object.
 PARTS = ("openings", "arguments", "values", "cores", "publishes", "returns", "consumers", "crowds", "notices", "endings", "patience", "interrupted",
-         "asynchronous", "documents", "held", "in_c", "in_c_shared", "in_rust", "with_rabbitmq", "packaging", "with_celery", "services")
+         "asynchronous", "threads", "threads_interrupted", "documents", "held", "in_c", "in_c_shared", "in_rust", "with_rabbitmq", "packaging",
+         "with_celery", "services")
 
 
 def library_at(out):

@@ -1,10 +1,11 @@
 """A program that awaits every call of `lapin.aio` and makes every blocking one, for `mypy --strict`; what is ignored here has to be an error."""
 import socket
 import ssl
+from concurrent.futures import Executor
 from typing import Dict, List, Optional
 
 import lapin
-from lapin import aio
+from lapin import aio, threads
 
 
 async def work(message: lapin.Message) -> None:
@@ -57,6 +58,17 @@ async def awaited(url: str) -> None:
         await channel.close()
         channel.publish("e", "k", "a text")  # type: ignore[arg-type]
         channel.queue_declare(5)  # type: ignore[arg-type,unused-coroutine]
+
+
+def threaded(url: str, pool: Executor) -> None:
+    shared: lapin.Threads = lapin.Threads(executor=pool, most_waiting=1 << 16, patience=5)
+    with lapin.connect(url, threads=shared) as connection, connection.channel(confirms=True, prefetch=5) as channel:
+        consumer: lapin.Consumer = channel.consume("q", lambda it: it.ack())
+        outcome: lapin.Outcome = channel.publish("e", "k", b"body").wait(5)
+        connection.run(1)
+        connection.stop()
+        print(outcome, consumer.tag, isinstance(connection, threads.Connection), connection.turn(0))
+    lapin.connect(url, threads="many")  # type: ignore[arg-type]
 
 
 def blocking(url: str) -> None:
