@@ -1,8 +1,8 @@
 """A web service with threads, as gunicorn's way is: threaded_service.py URL PORT. `POST /send/KEY` publishes its body, and answers 200 once the
 broker answers for it.
 
-A connection has one thread, so each thread of the pool has its own: it is opened at its first request, behind the fork of a server that forks, and
-again where it was lost. `heartbeat=0`, since a thread may be without a request for long; that the broker is gone is met by the next request.
+All threads of the pool share one connection and one channel (`threads=True`): it is opened at the first request, behind the fork of a server that
+forks, and again where it was lost. Its own thread sends heartbeats, so that it may be without a request for long.
 """
 import sys
 import threading
@@ -11,18 +11,22 @@ from http.server import BaseHTTPRequestHandler, HTTPServer
 
 import lapin
 
-MINE = threading.local()
+LOCK = threading.Lock()
 URL, PORT = sys.argv[1], int(sys.argv[2])
+CHANNEL = None
 
 
 def channel():
-    """This thread's channel with confirms."""
-    held = getattr(MINE, "channel", None)
-    if held is None or not held.is_open:
-        connection = lapin.connect(URL, heartbeat=0, connection_name="threaded_service")
-        held = MINE.channel = connection.channel(confirms=True)
-        held.queue_declare("services", durable=True)
-    return held
+    """The channel with confirms that all threads share."""
+    global CHANNEL
+    with LOCK:
+        if CHANNEL is None or not CHANNEL.is_open:
+            if CHANNEL is not None:
+                CHANNEL.connection.close()
+            connection = lapin.connect(URL, threads=True, connection_name="threaded_service")
+            CHANNEL = connection.channel(confirms=True)
+            CHANNEL.queue_declare("services", durable=True)
+        return CHANNEL
 
 
 def sent(key, body):
@@ -31,7 +35,7 @@ def sent(key, body):
         try:
             return bool(channel().publish("", "services", body, mandatory=True, delivery_mode=2, message_id=key).wait(10))
         except (lapin.Error, OSError):
-            MINE.channel = None
+            pass
     return False
 
 
