@@ -15,48 +15,75 @@ macro_rules! properties {
         /// let properties = BasicProperties::default().with_delivery_mode(2).with_message_id("17".into());
         /// assert_eq!(properties.message_id().as_ref().map(|it| it.as_str()), Some("17"));
         /// ```
+        #[derive(Clone, Default)]
+        pub struct BasicProperties(Option<Box<Fields>>);
+
+        // Most messages have none, and are moved all the same: the fields stand in a place of their own.
         #[derive(Clone, Debug, Default, PartialEq)]
-        pub struct BasicProperties {
+        struct Fields {
             $($name: Option<$kind>,)*
             malformed: Option<Box<[u8]>>,
         }
+
+        static EMPTY: Fields = Fields { $($name: None,)* malformed: None };
 
         impl BasicProperties {
             $(
                 #[doc = concat!("With this `", stringify!($name), "`.")]
                 pub fn $with(mut self, value: $kind) -> Self {
-                    self.$name = Some(value);
+                    self.0.get_or_insert_default().$name = Some(value);
                     self
                 }
 
                 #[doc = concat!("Without a `", stringify!($name), "`.")]
                 pub fn $without(mut self) -> Self {
-                    self.$name = None;
+                    self.0.iter_mut().for_each(|it| it.$name = None);
                     self
                 }
 
                 #[doc = concat!("Its `", stringify!($name), "`, where it has one.")]
                 pub fn $name(&self) -> &Option<$kind> {
-                    &self.$name
+                    &self.fields().$name
                 }
             )*
 
+            fn fields(&self) -> &Fields {
+                self.0.as_deref().unwrap_or(&EMPTY)
+            }
+
             /// The octets of a list that came and is none: the properties that stood in front of the fault are there.
             pub fn malformed(&self) -> Option<&[u8]> {
-                self.malformed.as_deref()
+                self.fields().malformed.as_deref()
             }
 
             /// Their list, as a content header has it, in the place of what stood there.
             pub(crate) fn write(&self, out: &mut Vec<u8>) -> Result<(), Unwritable> {
                 out.clear();
-                let flags = 0u16 $(| if self.$name.is_some() { 0x8000 >> $place } else { 0 })*;
+                let Some(fields) = &self.0 else {
+                    out.extend_from_slice(&[0, 0]);
+                    return Ok(());
+                };
+                let flags = 0u16 $(| if fields.$name.is_some() { 0x8000 >> $place } else { 0 })*;
                 out.extend_from_slice(&flags.to_be_bytes());
-                $(if let Some(value) = &self.$name {
+                $(if let Some(value) = &fields.$name {
                     $write(out, value)?;
                 })*
                 Ok(())
             }
 
+            pub(crate) fn read(list: &[u8]) -> BasicProperties {
+                if list == [0, 0] {
+                    return BasicProperties::default();
+                }
+                let mut fields = Box::<Fields>::default();
+                if fields.fill(Reader(list)).is_err() {
+                    fields.malformed = Some(list.into());
+                }
+                BasicProperties(Some(fields))
+            }
+        }
+
+        impl Fields {
             fn fill(&mut self, mut reader: Reader<'_>) -> Result<(), Malformed> {
                 let flags = reader.u16()?;
                 $(if flags & 0x8000 >> $place != 0 {
@@ -64,13 +91,17 @@ macro_rules! properties {
                 })*
                 if flags & 3 == 0 && reader.0.is_empty() { Ok(()) } else { Err(Malformed) }
             }
+        }
 
-            pub(crate) fn read(list: &[u8]) -> BasicProperties {
-                let mut read = BasicProperties::default();
-                if list != [0, 0] && read.fill(Reader(list)).is_err() {
-                    read.malformed = Some(list.into());
-                }
-                read
+        impl PartialEq for BasicProperties {
+            fn eq(&self, other: &Self) -> bool {
+                self.fields() == other.fields()
+            }
+        }
+
+        impl fmt::Debug for BasicProperties {
+            fn fmt(&self, f: &mut fmt::Formatter<'_>) -> fmt::Result {
+                f.debug_tuple("BasicProperties").field(self.fields()).finish()
             }
         }
     };
