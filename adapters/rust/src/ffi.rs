@@ -7,7 +7,8 @@
 
 use std::{
     ffi::{c_char, c_void, CStr},
-    os::fd::RawFd,
+    io,
+    os::fd::{AsRawFd, FromRawFd, OwnedFd, RawFd},
     ptr,
     sync::{
         atomic::{AtomicUsize, Ordering},
@@ -114,6 +115,14 @@ mod raw {
         pub revents: i16,
     }
 
+    #[repr(C)]
+    #[cfg_attr(target_arch = "x86_64", repr(packed))]
+    #[derive(Clone, Copy, Default)]
+    pub struct EpollEvent {
+        pub events: u32,
+        pub which: u64,
+    }
+
     extern "C" {
         pub fn lapin_version() -> *const c_char;
         pub fn lapin_open(handle: *mut Handle, frame_max: u32) -> u32;
@@ -152,6 +161,9 @@ mod raw {
             vhost: *const u8, vhost_length: usize, pairs: *const u8, pairs_length: usize, out: *mut u8, room: usize, written: *mut usize, code: *mut u16,
         ) -> u32;
         pub fn poll(files: *mut PollFd, count: std::ffi::c_ulong, timeout: i32) -> i32;
+        pub fn epoll_create1(flags: i32) -> i32;
+        pub fn epoll_ctl(epoll: i32, what: i32, file: i32, event: *mut EpollEvent) -> i32;
+        pub fn epoll_wait(epoll: i32, events: *mut EpollEvent, most: i32, timeout: i32) -> i32;
         pub fn pthread_atfork(prepare: Option<extern "C" fn()>, parent: Option<extern "C" fn()>, child: Option<extern "C" fn()>) -> i32;
     }
 }
@@ -379,18 +391,68 @@ pub fn beat(clock: &Clock, now: u64) -> Due {
 }
 
 /// Waits until the socket can be read, or written where that is wanted, or the other file can be read: whether the socket and the other one can be
-/// read. -1 in the place of the other one is none.
-pub fn wait(socket: RawFd, writing: bool, other: RawFd, milliseconds: i32) -> (bool, bool) {
+/// read.
+pub fn wait(socket: RawFd, writing: bool, other: RawFd) -> (bool, bool) {
     const IN: i16 = 1;
     const OUT: i16 = 4;
     let mut files = [
         raw::PollFd { fd: socket, events: if writing { IN | OUT } else { IN }, revents: 0 },
         raw::PollFd { fd: other, events: IN, revents: 0 },
     ];
-    if unsafe { raw::poll(files.as_mut_ptr(), 2, milliseconds) } <= 0 {
+    if unsafe { raw::poll(files.as_mut_ptr(), 2, -1) } <= 0 {
         return (false, false);
     }
     (files[0].revents & !OUT != 0, files[1].revents != 0)
+}
+
+/// What a connection's thread waits for: its socket, and a file by which it is called. Other threads may change what of the socket it waits for, and
+/// it isn't woken by that.
+pub struct Watch {
+    files: OwnedFd,
+    socket: RawFd,
+}
+
+const SOCKET: u64 = 0;
+const CALLED: u64 = 1;
+const IN: u32 = 1;
+const OUT: u32 = 4;
+
+impl Watch {
+    /// Both files have to be there as long as this is.
+    pub fn new(socket: RawFd, called: RawFd) -> io::Result<Watch> {
+        const CLOSED_BY_EXEC: i32 = 0o2000000;
+        let files = unsafe { raw::epoll_create1(CLOSED_BY_EXEC) };
+        if files < 0 {
+            return Err(io::Error::last_os_error());
+        }
+        let watch = Watch { files: unsafe { OwnedFd::from_raw_fd(files) }, socket };
+        const ADD: i32 = 1;
+        watch.control(ADD, socket, IN, SOCKET)?;
+        watch.control(ADD, called, IN, CALLED)?;
+        Ok(watch)
+    }
+
+    fn control(&self, what: i32, file: RawFd, events: u32, which: u64) -> io::Result<()> {
+        let mut event = raw::EpollEvent { events, which };
+        match unsafe { raw::epoll_ctl(self.files.as_raw_fd(), what, file, &mut event) } {
+            0 => Ok(()),
+            _ => Err(io::Error::last_os_error()),
+        }
+    }
+
+    /// Whether what can be read of the socket, and that it can be written, is waited for from now on. Its end always is.
+    pub fn set(&self, reading: bool, writing: bool) -> io::Result<()> {
+        const CHANGE: i32 = 3;
+        self.control(CHANGE, self.socket, IN * u32::from(reading) + OUT * u32::from(writing), SOCKET)
+    }
+
+    /// Waits for so long at most: whether the socket can be read, or is at its end, and whether there was a call.
+    pub fn wait(&self, milliseconds: i32) -> (bool, bool) {
+        let mut events = [raw::EpollEvent::default(); 2];
+        let count = unsafe { raw::epoll_wait(self.files.as_raw_fd(), events.as_mut_ptr(), 2, milliseconds) };
+        let came = |which| events.iter().take(count.max(0) as usize).any(|it| it.which == which && it.events & !OUT != 0);
+        (came(SOCKET), came(CALLED))
+    }
 }
 
 /// Overwrites octets that a password stood in.

@@ -25,6 +25,7 @@ mod octets;
 mod openings;
 mod publications;
 mod publishing;
+mod reading;
 mod returned;
 mod seen;
 mod shared;
@@ -33,6 +34,7 @@ mod status;
 mod thread;
 pub mod types;
 pub mod uri;
+mod waiting;
 
 pub use acker::Acker;
 pub use channel::{Channel, ExchangeKind, Queue};

@@ -11,6 +11,7 @@ use crate::{
     state::State,
     status::{ChannelState, ConnectionState},
     types::ShortString,
+    waiting,
 };
 use std::{
     sync::Arc,
@@ -37,7 +38,7 @@ impl Shared {
                     *room = state.made;
                 }
                 let before = state.room.insert(*room, cx.waker().clone());
-                self.leaves(state, later, false);
+                self.waits(state, later, cx.waker());
                 later.wakers.extend(before.filter(|it| !it.will_wake(cx.waker())));
                 return Ok(None);
             }
@@ -45,7 +46,10 @@ impl Shared {
         });
         match found {
             Ok(Some(confirm)) => Poll::Ready(Ok(confirm)),
-            Ok(None) => Poll::Pending,
+            Ok(None) => {
+                waiting::waits_for(self, cx.waker());
+                Poll::Pending
+            }
             Err(error) => Poll::Ready(Err(error)),
         }
     }
@@ -101,9 +105,7 @@ impl Shared {
                 }
                 Polled::Gone => Ok(Err(ErrorKind::Refused("it was told before").into())),
                 Polled::Waits(replaced) => {
-                    if state.dirty {
-                        self.leaves(state, later, true);
-                    }
+                    self.waits(state, later, cx.waker());
                     state.waiting += usize::from(replaced.is_none());
                     before = replaced;
                     Err(())
@@ -113,7 +115,10 @@ impl Shared {
         drop(before);
         match found {
             Some(Ok(found)) => Poll::Ready(found),
-            Some(Err(())) => Poll::Pending,
+            Some(Err(())) => {
+                waiting::waits_for(self, cx.waker());
+                Poll::Pending
+            }
             None => Poll::Ready(Err(forked())),
         }
     }
@@ -145,13 +150,16 @@ impl Shared {
                 *wait = state.made;
             }
             before = state.opening(place).and_then(|it| it.waits.insert(*wait, cx.waker().clone()));
-            self.leaves(state, later, true);
+            self.waits(state, later, cx.waker());
             Ok(None)
         });
         drop(before);
         match found {
             Ok(Some(messages)) => Poll::Ready(Ok(messages)),
-            Ok(None) => Poll::Pending,
+            Ok(None) => {
+                waiting::waits_for(self, cx.waker());
+                Poll::Pending
+            }
             Err(error) => Poll::Ready(Err(error)),
         }
     }

@@ -1,11 +1,12 @@
 //! Where futures run that nobody polls: those of delegates. Any executor will do; here is a small one of std alone.
 
 use crate::{shared::locked, Result};
+pub use crate::waiting::block_on;
 use std::{
     collections::VecDeque,
     future::Future,
     panic::{catch_unwind, AssertUnwindSafe},
-    pin::{pin, Pin},
+    pin::Pin,
     sync::{
         atomic::{
             AtomicU8,
@@ -14,7 +15,7 @@ use std::{
         Arc, Condvar, Mutex, OnceLock,
     },
     task::{Context, Poll, Wake, Waker},
-    thread::{self, Thread},
+    thread,
 };
 
 /// A future that somebody else runs.
@@ -201,24 +202,4 @@ pub fn default_runtime() -> Result<Runtime> {
     }
     let made = Runtime::new(thread::available_parallelism().map_or(2, |it| it.get()))?;
     Ok(SHARED.get_or_init(|| made).clone())
-}
-
-struct Unpark(Thread);
-
-impl Wake for Unpark {
-    fn wake(self: Arc<Self>) {
-        self.0.unpark();
-    }
-}
-
-/// Runs a future on this thread to its end.
-pub fn block_on<T>(future: impl Future<Output = T>) -> T {
-    let mut future = pin!(future);
-    let waker = Waker::from(Arc::new(Unpark(thread::current())));
-    loop {
-        match future.as_mut().poll(&mut Context::from_waker(&waker)) {
-            Poll::Ready(value) => return value,
-            Poll::Pending => thread::park(),
-        }
-    }
 }

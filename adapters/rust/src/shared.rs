@@ -11,8 +11,9 @@ use crate::{
     message::Delivery,
     later::{Dispatch, Later},
     runtime::Executor,
-    state::{Reply, Rest, State},
+    state::{now, Reply, Rest, State},
     status::{ChannelState, ConnectionState},
+    waiting,
 };
 use std::{
     collections::VecDeque,
@@ -20,7 +21,7 @@ use std::{
     mem,
     os::unix::net::UnixStream,
     sync::{Arc, Mutex, MutexGuard},
-    task::{Context, Poll},
+    task::{Context, Poll, Waker},
     time::{Duration, Instant},
 };
 
@@ -68,16 +69,34 @@ impl Shared {
         self.with(act).unwrap_or_else(|| Err(forked()))
     }
 
-    // What was queued is to leave: by whoever is about to wait for it, where nobody else waits; else by the thread, which takes together what
-    // many queue.
+    // What was queued is to leave: at once by whoever is about to wait for it, where nobody else waits; by who queues it, where nothing left lately; else
+    // by the thread, which takes together what many queue.
     pub fn leaves(self: &Arc<Self>, state: &mut State, later: &mut Later, at_once: bool) {
-        if at_once && !state.full && state.is_alone() {
+        let rested = state.dirty && state.rest == Rest::Sleeps;
+        if !state.full && (if at_once { state.is_alone() } else { rested && now() > state.clock.sent + 1 }) {
             self.push(state, later);
-            if state.full || state.broken.is_some() || state.lost.is_some() {
+            state.watch();
+            if state.is_ending() {
                 self.nudge(state);
             }
-        } else if at_once || state.dirty && state.rest == Rest::Sleeps {
+            return;
+        }
+        state.moved |= state.dirty;
+        if at_once || rested {
             self.nudge(state);
+        }
+    }
+
+    /// Who polls waits next, by this waker: in `block_on` it sends what waits as it stands in; else the thread reads for it.
+    pub fn waits(self: &Arc<Self>, state: &mut State, later: &mut Later, waker: &Waker) {
+        if waiting::is_own(waker) {
+            self.leaves(state, later, false);
+        } else {
+            state.is_lent = false;
+            state.watch();
+            if state.dirty {
+                self.leaves(state, later, true);
+            }
         }
     }
 
@@ -249,7 +268,7 @@ impl Shared {
             } else {
                 let is_new = it.waker.is_none();
                 if is_new {
-                    self.leaves(state, later, true);
+                    self.waits(state, later, cx.waker());
                 }
                 if let Some(it) = state.tickets.get_mut(&ticket) {
                     before = it.waker.replace(cx.waker().clone());
@@ -264,7 +283,10 @@ impl Shared {
         drop(before);
         match found {
             Ok(Some(reply)) => Poll::Ready(Ok(reply)),
-            Ok(None) => Poll::Pending,
+            Ok(None) => {
+                waiting::waits_for(self, cx.waker());
+                Poll::Pending
+            }
             Err(error) => Poll::Ready(Err(error)),
         }
     }
@@ -337,9 +359,7 @@ impl Shared {
             };
             if found.is_none() {
                 before = state.consumers.get_mut(&consumer).and_then(|it| it.wakers.insert(clone, cx.waker().clone()));
-                if state.dirty {
-                    self.leaves(state, later, true);
-                }
+                self.waits(state, later, cx.waker());
             }
             found
         });
@@ -347,7 +367,10 @@ impl Shared {
         match found {
             Some(Some(Ok(delivery))) => Poll::Ready(delivery.map(Ok)),
             Some(Some(Err(error))) => Poll::Ready(Some(Err(error))),
-            Some(None) => Poll::Pending,
+            Some(None) => {
+                waiting::waits_for(self, cx.waker());
+                Poll::Pending
+            }
             None => Poll::Ready(Some(Err(forked()))),
         }
     }

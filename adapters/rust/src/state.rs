@@ -5,7 +5,7 @@
 use crate::{
     acker::Acker,
     error::{Error, ErrorKind, Result},
-    ffi::{self, Clock, Fields, Limits, Session},
+    ffi::{self, Clock, Fields, Limits, Session, Watch},
     message::{BasicGetMessage, Delivery, DeliveryResult},
     openings::{Fed, Opening, Ticket},
     protocol::BasicProperties,
@@ -51,6 +51,16 @@ pub struct State {
     /// Whether the kernel takes nothing just now.
     pub full: bool,
     pub rest: Rest,
+    /// Whether something went on since the thread looked last.
+    pub moved: bool,
+    /// What the thread waits for: whether for what can be read, and that it can be written; and whether another one stands in for it, for that too.
+    pub watch: Option<Arc<Watch>>,
+    pub watched: (bool, bool),
+    pub stands_in: Option<bool>,
+    /// Whether what can be read may lie until the thread looks.
+    pub is_lent: bool,
+    /// What the socket is read into.
+    pub bytes: Vec<u8>,
     pub clock: Clock,
     pub limits: Limits,
     pub server_properties: Vec<u8>,
@@ -59,6 +69,8 @@ pub struct State {
     pub cause: Option<Error>,
     /// Why nothing can be sent any more: what the broker still said is heard before the connection is lost by it.
     pub broken: Option<Error>,
+    /// What the thread is to end the connection by.
+    pub ended: Option<Error>,
     /// Until when a close of this side's may take, and whether the connection has ended by it.
     pub closing: Option<Instant>,
     pub closed: bool,
@@ -86,8 +98,9 @@ impl State {
     pub fn new(limits: Limits) -> State {
         let base = Box::new(Opening { is_held: true, ..Opening::default() });
         State {
-            session: None, socket: None, out: Vec::new(), gone: 0, queued: 0, dirty: false, full: false, rest: Rest::Awake, clock: Clock::default(), limits,
-            server_properties: Vec::new(), lost: None, cause: None, broken: None, closing: None, closed: false, answer: Vec::new(), properties: Vec::new(),
+            session: None, socket: None, out: Vec::new(), gone: 0, queued: 0, dirty: false, full: false, rest: Rest::Awake,
+            moved: false, watch: None, watched: (true, false), stands_in: None, is_lent: false, bytes: Vec::new(), clock: Clock::default(), limits,
+            server_properties: Vec::new(), lost: None, cause: None, broken: None, ended: None, closing: None, closed: false, answer: Vec::new(), properties: Vec::new(),
             tickets: HashMap::new(), leaving: VecDeque::new(), waiting: 0, openings: vec![Some(base)], places: Vec::new(),
             numbers: HashMap::from([(0, 0)]), free: Vec::new(), next_number: 1, consumers: HashMap::new(), room: BTreeMap::new(), made: 0, opened: None,
             on_error: Vec::new(), seen: Seen::default(), events: Vec::new(),
@@ -159,6 +172,11 @@ impl State {
     }
 
     // ---- states
+
+    /// Whether the thread has to look, since the connection ends or is closed.
+    pub fn is_ending(&self) -> bool {
+        self.ended.is_some() || self.broken.is_some() || self.lost.is_some() || self.closing.is_some() || self.cause.is_some()
+    }
 
     pub fn connection_state(&mut self) -> ConnectionState {
         match (&mut self.session, &self.lost) {

@@ -3,8 +3,8 @@
 use crate::{
     connection::Target,
     error::{Error, ErrorKind, Result},
-    ffi::{self, Clock, Due, Limits, Session},
-    later::Calls,
+    ffi::{self, Clock, Due, Limits, Session, Watch},
+    later::{Calls, Later},
     shared::{forked, Shared},
     state::{now, Rest, State},
     status::ConnectionState,
@@ -42,6 +42,7 @@ pub fn run(shared: Arc<Shared>, target: Target, woken: UnixStream) {
     shared.with(|state, later| {
         state.lose(error);
         state.socket = None;
+        state.watch = None;
         state.look_everywhere(&shared, later);
         later.wakers.extend(state.opened.take());
         // (those calls that wait for their turn to be told, too)
@@ -166,9 +167,6 @@ fn gone(limits: &Limits) -> Error {
 
 // ---- the socket
 
-/// What the thread does next: it waits so many milliseconds, also until it can write; or the connection is at its end.
-type Step = Result<(i32, bool)>;
-
 // Serves the socket until the connection has ended; why it did.
 fn serve(shared: &Arc<Shared>, opened: Opened, woken: &UnixStream) -> Error {
     let Opened { socket, limits, server_properties, came } = opened;
@@ -177,7 +175,12 @@ fn serve(shared: &Arc<Shared>, opened: Opened, woken: &UnixStream) -> Error {
         Ok(session) => session,
         Err(_) => return ErrorKind::NoMemory.into(),
     };
+    let watch = match Watch::new(socket.as_raw_fd(), woken.as_raw_fd()) {
+        Ok(watch) => Arc::new(watch),
+        Err(error) => return error.into(),
+    };
     let begun = shared.with(|state, later| {
+        state.watch = Some(watch.clone());
         state.session = Some(session);
         state.socket = Some(socket.clone());
         state.limits = limits;
@@ -189,17 +192,16 @@ fn serve(shared: &Arc<Shared>, opened: Opened, woken: &UnixStream) -> Error {
     });
     match begun {
         Some(Err(error)) => error,
-        _ => hold(shared, &socket, woken),
+        _ => hold(shared, &watch, woken),
     }
 }
 
 // Reads and sends until the connection has ended; why it did.
-fn hold(shared: &Arc<Shared>, socket: &TcpStream, woken: &UnixStream) -> Error {
-    let mut room = vec![0; 1 << 16];
+fn hold(shared: &Arc<Shared>, watch: &Watch, woken: &UnixStream) -> Error {
     let mut looked = Instant::now();
     loop {
         let (readable, called) = match step(shared) {
-            Ok((wait, writing)) => ffi::wait(socket.as_raw_fd(), writing, woken.as_raw_fd(), wait),
+            Ok(wait) => watch.wait(wait),
             Err(error) => return error,
         };
         if called {
@@ -212,18 +214,23 @@ fn hold(shared: &Arc<Shared>, socket: &TcpStream, woken: &UnixStream) -> Error {
             looked = Instant::now();
         }
         if readable {
-            if let Err(error) = read(shared, socket, &mut room) {
-                return error;
-            }
+            shared.with(|state, later| {
+                state.rest = Rest::Awake;
+                state.read(shared, later)
+            });
         }
     }
 }
 
-// Sends what waits and looks at the clock.
-fn step(shared: &Arc<Shared>) -> Step {
+// Sends what waits and looks at the clock: how many milliseconds the thread waits then, where the connection isn't at its end.
+fn step(shared: &Arc<Shared>) -> Result<i32> {
     let found = shared.with(|state, later| {
+        if let Some(error) = state.ended.take() {
+            return Err(error);
+        }
         state.full = false;
-        let goes_on = state.dirty;
+        let was_dirty = state.dirty;
+        let goes_on = mem::take(&mut state.moved) || was_dirty;
         if state.dirty || state.gone < state.out.len() {
             shared.push(state, later);
         }
@@ -233,7 +240,7 @@ fn step(shared: &Arc<Shared>) -> Step {
         if let Some(error) = &state.lost {
             return Err(error.clone());
         }
-        let wait = beat(state)?;
+        let wait = beat(state, shared, later)?;
         let closing = state.closing.map_or(60_000, |_| 100);
         if let Some(until) = state.closing {
             if matches!(state.connection_state(), ConnectionState::Closed | ConnectionState::Error) {
@@ -244,7 +251,9 @@ fn step(shared: &Arc<Shared>) -> Step {
             }
         }
         state.rest = if goes_on { Rest::Dozes } else { Rest::Sleeps };
-        Ok(Ok((wait.min(if goes_on { 1 } else { closing }), state.full)))
+        state.is_lent &= goes_on;
+        state.watch();
+        Ok(Ok(wait.min(if was_dirty { 1 } else if goes_on { 4 } else { closing })))
     });
     match found.unwrap_or_else(|| Err(forked()))? {
         Ok(found) => Ok(found),
@@ -253,10 +262,10 @@ fn step(shared: &Arc<Shared>) -> Step {
 }
 
 // A heartbeat leaves where one is due: how many milliseconds nothing is.
-fn beat(state: &mut State) -> Result<i32> {
+fn beat(state: &mut State, shared: &Arc<Shared>, later: &mut Later) -> Result<i32> {
     match ffi::beat(&state.clock, now()) {
         // (this side stood still: what came meanwhile is read first)
-        Due::Silent if state.socket.as_ref().is_some_and(|it| ffi::wait(it.as_raw_fd(), false, -1, 0).0) => Ok(0),
+        Due::Silent if state.read(shared, later) || state.ended.is_some() => Ok(0),
         Due::Silent => Err(ErrorKind::MissingHeartbeatError.into()),
         Due::Send => {
             if state.gone == state.out.len() {
@@ -273,31 +282,12 @@ fn beat(state: &mut State) -> Result<i32> {
 
 // Nothing can be sent: what the broker still said is heard, and then it is lost by this.
 fn last_words(shared: &Arc<Shared>, broken: Error) -> Error {
-    let mut room = vec![0; 1 << 16];
-    let socket = shared.with(|state, _| state.socket.clone()).flatten();
     for _ in 0..16 {
-        let Some(length) = socket.as_ref().and_then(|it| (&**it).read(&mut room).ok()).filter(|it| *it > 0) else { break };
-        if shared.with(|state, later| state.hear(&room[..length], shared, later).is_err()) != Some(false) {
+        if shared.with(|state, later| state.read(shared, later) && state.ended.is_none()) != Some(true) {
             break;
         }
     }
     broken
-}
-
-fn read(shared: &Arc<Shared>, mut socket: &TcpStream, room: &mut [u8]) -> Result<()> {
-    match socket.read(room) {
-        Ok(0) => Err(Error::io(io::ErrorKind::ConnectionReset, "the broker hung up")),
-        Ok(length) => {
-            let heard = shared.with(|state, later| {
-                state.rest = Rest::Awake;
-                state.clock.heard = now();
-                state.hear(&room[..length], shared, later)
-            });
-            heard.unwrap_or(Ok(()))
-        }
-        Err(error) if matches!(error.kind(), io::ErrorKind::WouldBlock | io::ErrorKind::Interrupted) => Ok(()),
-        Err(error) => Err(error.into()),
-    }
 }
 
 /// Begins a connection.

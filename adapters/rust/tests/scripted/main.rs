@@ -6,6 +6,7 @@ mod common;
 mod consumers;
 mod endings;
 mod publishes;
+mod waits;
 
 use std::{
     future::Future,
