@@ -40,7 +40,7 @@ def rust_is_built_without_a_registry_and_a_warning():
 @test
 @needs_cargo
 def rust_keeps_its_promises_against_a_scripted_broker():
-    assert passed(cargo("test", "--offline", "--locked", "--lib", "--tests", AMQP_ADDR=None)) >= 25
+    assert passed(cargo("test", "--offline", "--locked", "--lib", "--tests", AMQP_ADDR=None)) >= 30
 
 
 @test

@@ -123,6 +123,13 @@ mod raw {
         pub which: u64,
     }
 
+    /// Seconds and nanoseconds, of what comes again and again and of what comes first.
+    #[repr(C)]
+    pub struct TimerSpec {
+        pub again: [i64; 2],
+        pub first: [i64; 2],
+    }
+
     extern "C" {
         pub fn lapin_version() -> *const c_char;
         pub fn lapin_open(handle: *mut Handle, frame_max: u32) -> u32;
@@ -163,6 +170,8 @@ mod raw {
         pub fn poll(files: *mut PollFd, count: std::ffi::c_ulong, timeout: i32) -> i32;
         pub fn epoll_create1(flags: i32) -> i32;
         pub fn epoll_ctl(epoll: i32, what: i32, file: i32, event: *mut EpollEvent) -> i32;
+        pub fn timerfd_create(clock: i32, flags: i32) -> i32;
+        pub fn timerfd_settime(timer: i32, flags: i32, new: *const TimerSpec, old: *mut TimerSpec) -> i32;
         pub fn epoll_wait(epoll: i32, events: *mut EpollEvent, most: i32, timeout: i32) -> i32;
         pub fn pthread_atfork(prepare: Option<extern "C" fn()>, parent: Option<extern "C" fn()>, child: Option<extern "C" fn()>) -> i32;
     }
@@ -405,15 +414,17 @@ pub fn wait(socket: RawFd, writing: bool, other: RawFd) -> (bool, bool) {
     (files[0].revents & !OUT != 0, files[1].revents != 0)
 }
 
-/// What a connection's thread waits for: its socket, and a file by which it is called. Other threads may change what of the socket it waits for, and
-/// it isn't woken by that.
+/// What a connection's thread waits for: its socket, a file by which it is called, and a time. Other threads may change what of the socket it waits
+/// for, and the time, and it isn't woken by that.
 pub struct Watch {
     files: OwnedFd,
+    timer: OwnedFd,
     socket: RawFd,
 }
 
 const SOCKET: u64 = 0;
 const CALLED: u64 = 1;
+const TIME: u64 = 2;
 const IN: u32 = 1;
 const OUT: u32 = 4;
 
@@ -421,15 +432,21 @@ impl Watch {
     /// Both files have to be there as long as this is.
     pub fn new(socket: RawFd, called: RawFd) -> io::Result<Watch> {
         const CLOSED_BY_EXEC: i32 = 0o2000000;
-        let files = unsafe { raw::epoll_create1(CLOSED_BY_EXEC) };
-        if files < 0 {
-            return Err(io::Error::last_os_error());
-        }
-        let watch = Watch { files: unsafe { OwnedFd::from_raw_fd(files) }, socket };
         const ADD: i32 = 1;
+        let file = |found: i32| if found < 0 { Err(io::Error::last_os_error()) } else { Ok(unsafe { OwnedFd::from_raw_fd(found) }) };
+        let files = file(unsafe { raw::epoll_create1(CLOSED_BY_EXEC) })?;
+        let timer = file(unsafe { raw::timerfd_create(1, CLOSED_BY_EXEC) })?;
+        let watch = Watch { files, timer, socket };
         watch.control(ADD, socket, IN, SOCKET)?;
         watch.control(ADD, called, IN, CALLED)?;
+        watch.control(ADD, watch.timer.as_raw_fd(), IN, TIME)?;
         Ok(watch)
+    }
+
+    /// The wait ends a millisecond from now, or no more by the time.
+    pub fn alarm(&self, is_set: bool) {
+        let time = raw::TimerSpec { again: [0, 0], first: [0, 1_000_000 * i64::from(is_set)] };
+        unsafe { raw::timerfd_settime(self.timer.as_raw_fd(), 0, &time, ptr::null_mut()) };
     }
 
     fn control(&self, what: i32, file: RawFd, events: u32, which: u64) -> io::Result<()> {
@@ -448,8 +465,8 @@ impl Watch {
 
     /// Waits for so long at most: whether the socket can be read, or is at its end, and whether there was a call.
     pub fn wait(&self, milliseconds: i32) -> (bool, bool) {
-        let mut events = [raw::EpollEvent::default(); 2];
-        let count = unsafe { raw::epoll_wait(self.files.as_raw_fd(), events.as_mut_ptr(), 2, milliseconds) };
+        let mut events = [raw::EpollEvent::default(); 3];
+        let count = unsafe { raw::epoll_wait(self.files.as_raw_fd(), events.as_mut_ptr(), 3, milliseconds) };
         let came = |which| events.iter().take(count.max(0) as usize).any(|it| it.which == which && it.events & !OUT != 0);
         (came(SOCKET), came(CALLED))
     }

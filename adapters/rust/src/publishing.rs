@@ -15,7 +15,7 @@ use crate::{
 };
 use std::{
     sync::Arc,
-    task::{Context, Poll},
+    task::{Context, Poll, Waker},
 };
 
 /// With so many bytes of publishes, the one who publishes sends them.
@@ -42,7 +42,7 @@ impl Shared {
                 later.wakers.extend(before.filter(|it| !it.will_wake(cx.waker())));
                 return Ok(None);
             }
-            self.publish(state, later, place, names, marks, payload, properties).map(Some)
+            self.publish(state, later, cx.waker(), place, names, marks, payload, properties).map(Some)
         });
         match found {
             Ok(Some(confirm)) => Poll::Ready(Ok(confirm)),
@@ -56,8 +56,8 @@ impl Shared {
 
     #[allow(clippy::too_many_arguments)]
     fn publish(
-        self: &Arc<Self>, state: &mut State, later: &mut Later, place: usize, names: [&ShortString; 2], marks: [bool; 2], payload: &[u8],
-        properties: &BasicProperties,
+        self: &Arc<Self>, state: &mut State, later: &mut Later, waker: &Waker, place: usize, names: [&ShortString; 2], marks: [bool; 2],
+        payload: &[u8], properties: &BasicProperties,
     ) -> Result<Option<u64>> {
         properties.write(&mut state.properties).map_err(|why| ErrorKind::SerialisationError(why.into()))?;
         let closed = ErrorKind::InvalidChannelState(ChannelState::Closed, "basic.publish");
@@ -84,7 +84,7 @@ impl Shared {
         if state.queued > STAGED && !state.full {
             self.push(state, later);
         }
-        self.leaves(state, later, false);
+        self.leaves_by(state, later, waker, false);
         Ok(selected.then_some(confirm))
     }
 

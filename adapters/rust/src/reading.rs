@@ -1,6 +1,5 @@
-//! The reading of a connection's socket: under the lock, so that what comes is heard in its order whoever reads it. The connection's thread does so, or
-//! one that waits in `block_on`, and which stands in for it; then the thread isn't woken by what comes. Where nobody else waits the socket stays lent
-//! behind that, until the thread looks and finds that nothing went on for a millisecond: who waits again soon wakes nobody.
+//! The reading of a connection's socket: under the lock, so that what comes is heard in its order whoever reads it. The connection's thread does so,
+//! or one that waits in `block_on`, and which stands in for it; then the thread isn't woken by what comes.
 
 use crate::{
     error::Error,
@@ -41,11 +40,22 @@ impl State {
 
     /// From now on the thread waits for what it has to.
     pub fn watch(&mut self) {
-        let wanted = (self.stands_in.is_none() && !self.is_lent, self.full && self.stands_in != Some(true));
+        let wanted = (self.stands_in.is_none(), self.full && self.stands_in != Some(true));
         let Some(watch) = self.watch.as_ref().filter(|_| self.watched != wanted) else { return };
         match watch.set(wanted.0, wanted.1) {
             Ok(()) => self.watched = wanted,
             Err(error) => drop(self.ended.get_or_insert(error.into())),
+        }
+    }
+}
+
+impl State {
+    /// The thread looks within a millisecond, where it sleeps; or no more, where nothing is queued.
+    pub fn alarm(&mut self, is_set: bool) {
+        let is_set = is_set && self.rest == Rest::Sleeps;
+        if self.alarmed != is_set {
+            self.alarmed = is_set;
+            self.watch.iter().for_each(|it| it.alarm(is_set));
         }
     }
 }
@@ -58,12 +68,12 @@ impl Shared {
             let is_free = state.stands_in.is_none() && !state.is_ending() && caller.can_stand_in();
             if is_free {
                 state.stands_in = Some(state.full);
-                state.moved = true;
                 state.watch();
             }
             if state.dirty && !state.full {
                 self.push(state, later);
             }
+            state.alarm(state.dirty);
             if state.is_ending() {
                 self.nudge(state);
             }
@@ -78,7 +88,7 @@ impl Shared {
         let heard = catch_unwind(AssertUnwindSafe(|| self.with(|state, later| self.heard(state, later, readable))));
         if heard.is_err() {
             self.with(|state, _| {
-                (state.stands_in, state.is_lent) = (None, false);
+                state.stands_in = None;
                 state.ended.get_or_insert_with(|| Error::io(io::ErrorKind::Other, "a thread of the connection panicked"));
                 state.watch();
                 self.nudge(state);
@@ -90,7 +100,6 @@ impl Shared {
     // The caller stands in no more: what came is heard, and what that wants to leave is sent.
     fn heard(self: &Arc<Self>, state: &mut State, later: &mut Later, readable: bool) {
         let writing = state.stands_in.take() == Some(true);
-        state.moved = true;
         if readable {
             state.read(self, later);
         }
@@ -101,7 +110,6 @@ impl Shared {
         if state.is_ending() {
             self.nudge(state);
         }
-        state.is_lent = state.rest == Rest::Dozes && state.is_alone() && state.consumers.is_empty() && !state.is_ending();
         state.watch();
     }
 }

@@ -69,8 +69,8 @@ impl Shared {
         self.with(act).unwrap_or_else(|| Err(forked()))
     }
 
-    // What was queued is to leave: at once by whoever is about to wait for it, where nobody else waits; by who queues it, where nothing left lately; else
-    // by the thread, which takes together what many queue.
+    // What was queued is to leave: at once by whoever is about to wait for it, where nobody else waits; by who queues it, where nothing left lately;
+    // else by the thread, which takes together what many queue.
     pub fn leaves(self: &Arc<Self>, state: &mut State, later: &mut Later, at_once: bool) {
         let rested = state.dirty && state.rest == Rest::Sleeps;
         if !state.full && (if at_once { state.is_alone() } else { rested && now() > state.clock.sent + 1 }) {
@@ -81,22 +81,26 @@ impl Shared {
             }
             return;
         }
-        state.moved |= state.dirty;
-        if at_once || rested {
+        if at_once {
             self.nudge(state);
+        } else if rested {
+            state.alarm(true);
         }
     }
 
-    /// Who polls waits next, by this waker: in `block_on` it sends what waits as it stands in; else the thread reads for it.
-    pub fn waits(self: &Arc<Self>, state: &mut State, later: &mut Later, waker: &Waker) {
+    /// The same, where one polls by this waker: in `block_on` it sends what is queued as it waits, and the thread looks only where it doesn't.
+    pub fn leaves_by(self: &Arc<Self>, state: &mut State, later: &mut Later, waker: &Waker, at_once: bool) {
         if waiting::is_own(waker) {
-            self.leaves(state, later, false);
+            state.alarm(state.dirty);
         } else {
-            state.is_lent = false;
-            state.watch();
-            if state.dirty {
-                self.leaves(state, later, true);
-            }
+            self.leaves(state, later, at_once);
+        }
+    }
+
+    /// Who polls waits next, by this waker.
+    pub fn waits(self: &Arc<Self>, state: &mut State, later: &mut Later, waker: &Waker) {
+        if state.dirty {
+            self.leaves_by(state, later, waker, true);
         }
     }
 
@@ -275,8 +279,8 @@ impl Shared {
                     state.waiting += usize::from(is_new);
                 }
             }
-            if state.dirty && state.rest == Rest::Sleeps {
-                self.nudge(state);
+            if state.dirty {
+                state.alarm(true);
             }
             found.transpose()
         });

@@ -51,14 +51,12 @@ pub struct State {
     /// Whether the kernel takes nothing just now.
     pub full: bool,
     pub rest: Rest,
-    /// Whether something went on since the thread looked last.
-    pub moved: bool,
+    /// Whether the thread looks within a millisecond, though it sleeps.
+    pub alarmed: bool,
     /// What the thread waits for: whether for what can be read, and that it can be written; and whether another one stands in for it, for that too.
     pub watch: Option<Arc<Watch>>,
     pub watched: (bool, bool),
     pub stands_in: Option<bool>,
-    /// Whether what can be read may lie until the thread looks.
-    pub is_lent: bool,
     /// What the socket is read into.
     pub bytes: Vec<u8>,
     pub clock: Clock,
@@ -99,8 +97,9 @@ impl State {
         let base = Box::new(Opening { is_held: true, ..Opening::default() });
         State {
             session: None, socket: None, out: Vec::new(), gone: 0, queued: 0, dirty: false, full: false, rest: Rest::Awake,
-            moved: false, watch: None, watched: (true, false), stands_in: None, is_lent: false, bytes: Vec::new(), clock: Clock::default(), limits,
-            server_properties: Vec::new(), lost: None, cause: None, broken: None, ended: None, closing: None, closed: false, answer: Vec::new(), properties: Vec::new(),
+            alarmed: false, watch: None, watched: (true, false), stands_in: None, bytes: Vec::new(), clock: Clock::default(), limits,
+            server_properties: Vec::new(), lost: None, cause: None, broken: None, ended: None, closing: None, closed: false,
+            answer: Vec::new(), properties: Vec::new(),
             tickets: HashMap::new(), leaving: VecDeque::new(), waiting: 0, openings: vec![Some(base)], places: Vec::new(),
             numbers: HashMap::from([(0, 0)]), free: Vec::new(), next_number: 1, consumers: HashMap::new(), room: BTreeMap::new(), made: 0, opened: None,
             on_error: Vec::new(), seen: Seen::default(), events: Vec::new(),

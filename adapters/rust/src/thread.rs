@@ -229,8 +229,8 @@ fn step(shared: &Arc<Shared>) -> Result<i32> {
             return Err(error);
         }
         state.full = false;
-        let was_dirty = state.dirty;
-        let goes_on = mem::take(&mut state.moved) || was_dirty;
+        state.alarm(false);
+        let goes_on = state.dirty;
         if state.dirty || state.gone < state.out.len() {
             shared.push(state, later);
         }
@@ -251,9 +251,8 @@ fn step(shared: &Arc<Shared>) -> Result<i32> {
             }
         }
         state.rest = if goes_on { Rest::Dozes } else { Rest::Sleeps };
-        state.is_lent &= goes_on;
         state.watch();
-        Ok(Ok(wait.min(if was_dirty { 1 } else if goes_on { 4 } else { closing })))
+        Ok(Ok(wait.min(if goes_on { 1 } else { closing })))
     });
     match found.unwrap_or_else(|| Err(forked()))? {
         Ok(found) => Ok(found),

@@ -5,6 +5,7 @@ mod alone;
 mod common;
 mod consumers;
 mod endings;
+mod many;
 mod publishes;
 mod waits;
 
