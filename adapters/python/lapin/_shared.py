@@ -114,13 +114,13 @@ class Shared(Core):
         confirm, session = self._made_now, self._session
         assert confirm is not None
         confirms, number = confirm._channel._confirms, session.last_confirm
-        if number != session.last:
+        if confirm._number or number != session.last:
             confirm._number = number
             if confirms.is_on and confirms.open.get(confirms.tag) is not confirm:
                 confirms.open[confirms.tag + 1] = confirm
                 confirms.tag += 1
             session.last = number
-        elif not confirm._number:
+        else:
             confirms._strike(confirm)
         self._unordered = self._unordered or 1
         self._made_now = None

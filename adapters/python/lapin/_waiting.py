@@ -10,8 +10,8 @@ from typing import TYPE_CHECKING, Any, Callable, Deque, Generic, List, Optional,
 
 from ._asks import Ask
 from ._confirms import ConfirmCore, Confirms
-from ._core import ChannelCore, ConsumerCore
-from ._library import _outcome
+from ._consumers import ConsumerCore
+from ._core import ChannelCore
 from ._values import BY_NUMBER, Message
 from .errors import Refused
 
@@ -139,14 +139,14 @@ class SharedConfirms(Confirms):
         """A settlement came. (Without a mandatory publish it is a short way, since this is what a publisher's time is spent in.)"""
         if self.is_used:
             return super().settle(tag, is_multiple)
-        by, opened, listeners = self._session._by, self.open, self._channel.connection._listeners
+        outcome, opened, listeners = self._session.outcome, self.open, self._channel.connection._listeners
         covered = list(takewhile(lambda at: at <= tag, opened) if tag else opened) if is_multiple else (tag,)
         for at in covered:
             confirm = opened.get(at)
             if confirm is None:
                 continue
             if confirm._found is None:
-                code = _outcome(by, confirm._number)
+                code = outcome(confirm._number)
                 found: Any = BY_NUMBER.get(code)
                 if found is None:
                     found = self._beyond(code, confirm._number)

@@ -24,8 +24,9 @@ from ._arguments import body_of, flag, octets_of, seconds, whole
 from ._asks import Ask
 from ._callbacks import Callbacks
 from ._confirms import ConfirmCore, identity_of
-from ._core import ChannelCore, ConsumerCore
-from ._library import DONE, _here, _library, _publish
+from ._consumers import ConsumerCore
+from ._core import ChannelCore
+from ._library import DONE, _here, _library
 from ._shared import Shared
 from ._values import Message, Outcome, Returned
 from ._waiting import Bell, Call, Fed, Flush, Request, SharedConfirms, _write, ring
@@ -136,6 +137,9 @@ class Connection(Shared, plain.Connection):
             self._was_fed = False
             return True
         return None
+
+    def _has_callbacks(self) -> bool:
+        return any(consumer.callback is not None for consumer in self._consumers.values())
 
     def stop(self) -> None:
         """Ends `run`, of any thread."""
@@ -255,7 +259,7 @@ class Consumer(Fed, plain.Consumer):
         except (CallFailed, Refused, ConnectionLost):  # its channel has ended, and the broker has all again
             pass
         except BaseException:
-            connection._ending.append(self)
+            connection._step(lambda: connection._end_later(self))
             raise
 
     def _begin_end(self) -> bool:
@@ -333,16 +337,15 @@ class Channel(plain.Channel):
                         connection._made_now = confirm
                         if identity is not None:
                             confirms.expect(confirm, identity)
-                        status = _publish(session._by, self.number, to, len(to), key, len(key), mandatory, False, octets, len(octets), listed,
-                                          len(listed), session._confirm_at)
-                        if status:
-                            self._not_made(status, to, key)
-                        confirm._number = number = session._confirm.value
+                        try:
+                            session.publish_as(confirm, self.number, to, key, octets, listed, mandatory)
+                        except (Refused, ValueError, MemoryError) as error:
+                            self._not_made(error, to, key)
                         if confirms.is_on:
                             tag = confirms.tag + 1
                             confirms.open[tag] = confirm
                             confirms.tag = tag
-                        session.last, connection._made_now, connection._unordered = number, None, 1
+                        connection._made_now, connection._unordered = None, 1
                         connection._waiting += len(octets) + 64
                         if connection._crowd:
                             connection._pass_on()
@@ -351,15 +354,14 @@ class Channel(plain.Channel):
                     session._thread = 0
             connection._wait_for_room()
 
-    def _not_made(self, status: int, exchange: bytes, key: bytes) -> None:
+    def _not_made(self, error: Exception, exchange: bytes, key: bytes) -> None:
         """Raises what a publish is told that was refused."""
         self.connection._mend()
         octets_of("exchange", exchange)
         octets_of("routing_key", key)
-        try:
-            self._session.check(status)
-        except Refused as error:
+        if isinstance(error, Refused):
             raise Refused(error.words, self.connection._reason(self.number, error.words)) from None
+        raise error
 
     def _noted(self, message: Message, no_ack: bool) -> Message:
         message = super()._noted(message, no_ack)
