@@ -156,8 +156,9 @@ def ending(how, then=lambda peer: None, answers_close=True):
 
 
 def serve_ends(peer, then, answers_close):
-    """Answers the publish `last`, the end, and what stands before the eight wait: channels, of which it closes number 3 once, and qos."""
-    tag, calls, has_closed = 0, 0, False
+    """Answers the publish `last`, the end, and what stands before the eight wait: channels, of which it closes number 3 once, and qos, but on a channel
+    that it closed."""
+    tag, calls, has_closed, is_closed = 0, 0, False, False
     while True:
         _, channel, payload = peer.frame()
         at = struct.unpack(">HH", payload[:4])
@@ -172,10 +173,11 @@ def serve_ends(peer, then, answers_close):
             assert tag == 1, "what was published before is there before"
         elif at == (20, 10):
             peer.send(scripted.method(channel, 20, 11, bytes(4)))
+            is_closed = is_closed and channel != 3
             if channel == 3 and not has_closed:
                 peer.send(scripted.channel_close(3, 406, "by the broker"))
-                has_closed = True
-        elif at == (60, 10):
+                has_closed = is_closed = True
+        elif at == (60, 10) and not (is_closed and channel == 3):
             peer.send(scripted.method(channel, 60, 11))
         calls += at in ((50, 10), (60, 70))
         if calls == 2:
