@@ -460,7 +460,8 @@ class SessionByCtypes:
 
 
 if TYPE_CHECKING or _extension is None:
-    Numbered, Session = NumberedByCtypes, SessionByCtypes
+    Numbered = NumberedByCtypes
+    Session = SessionByCtypes
 else:
     Numbered = _extension.Numbered
 

@@ -26,7 +26,8 @@ from ._callbacks import Callbacks
 from ._confirms import ConfirmCore, identity_of
 from ._consumers import ConsumerCore
 from ._core import ChannelCore
-from ._library import DONE, _here, _library
+from ._library import DONE, _here
+from ._loaded import _library
 from ._shared import Shared
 from ._values import Message, Outcome, Returned
 from ._waiting import Bell, Call, Fed, Flush, Request, SharedConfirms, _write, ring
