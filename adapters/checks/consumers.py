@@ -294,8 +294,8 @@ def a_connection_that_is_dropped_closes_its_socket():
     with within(30), Broker(script, many=True) as url:
         for _ in range(20):
             lapin.connect(url).channel()
-        gc.collect()
         for _ in range(100):
+            gc.collect()  # again and again: it does nothing while another thread collects
             if len(os.listdir("/proc/self/fd")) <= before + 2:
                 break
             time.sleep(0.05)
